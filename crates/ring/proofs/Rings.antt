@@ -96,9 +96,9 @@ begins xs f =
     cond-both (ltb 0 (length xs - f)) (f + 0) (0 - (length xs - f)) (λ at. turned xs f ≡ turned xs at)
     (λ e. let z : f ≡ f + 0 = omega arith in ap (turned xs) z)
     (λ e.
-        let l = ltb-false 0 (length xs - f) e in
-        let z : 0 ≡ 0 - (length xs - f) = omega arith in
-        turned-past xs f (omega arith) ∙ sym (append-nil xs) ∙ ap (turned xs) z)
+    let l = ltb-false 0 (length xs - f) e in
+    let z : 0 ≡ 0 - (length xs - f) = omega arith in
+    turned-past xs f (omega arith) ∙ sym (append-nil xs) ∙ ap (turned xs) z)
 
 take-within : {X : Type 0} (n : ℕ) (xs : List X) → take n xs ≡ take (min n (length xs)) xs
 take-within n xs = elim (cases-lt n (length xs)) [

@@ -35,11 +35,10 @@ returns g c =
     let d = c .index-self-at .result in
     let at = placed (s .first) 0 (length xs) in
     let first : c .place-self .result ≡ placed at 1 (length xs) = c .place-self .ensures ∙ ap (λ a. placed a 1 (length xs)) (c .place-at .ensures) in
-    let some : 0 < min (s .count) (length xs) = omega (arith, n, c .if-count-eq0 .left) in
-    (
+    let some : 0 < min (s .count) (length xs) = omega (arith, n, c .if-count-eq0 .left) in (
       ringed-take xs (s .first) (s .count) d some
-      ∙ ap (λ a. getD xs a d ∷ ringed xs (placed at 1 (length xs)) (min (s .count) (length xs) - 1)) (sym (c .place-at .ensures))
-      ∙ ap (λ a. getD xs (c .place-at .result) d ∷ ringed xs a (min (s .count) (length xs) - 1)) (sym first)
-      ∙ ap (λ k. getD xs (c .place-at .result) d ∷ ringed xs (c .place-self .result) (k - 1)) (sym n),
+          ∙ ap (λ a. getD xs a d ∷ ringed xs (placed at 1 (length xs)) (min (s .count) (length xs) - 1)) (sym (c .place-at .ensures))
+          ∙ ap (λ a. getD xs (c .place-at .result) d ∷ ringed xs a (min (s .count) (length xs) - 1)) (sym first)
+          ∙ ap (λ k. getD xs (c .place-at .result) d ∷ ringed xs (c .place-self .result) (k - 1)) (sym n),
       refl,
     )

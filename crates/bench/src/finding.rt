@@ -1,0 +1,30 @@
+ghost use Rattle.bench.specs.Findings.{Inspected};
+use graph::Graph;
+use refusals::LoadRefusal;
+use refusals::Refusal;
+
+// What a file holds: its gates, the host counted, its wires, its clock, and the period or why there is none.
+#[derive(Drop)]
+pub struct Finding {
+    pub gates: usize,
+    pub wires: usize,
+    pub clock: u32,
+    pub period: Result<u32, Refusal>,
+}
+
+// What the words hold, or why they are no file; `spare` where bytes are left over beyond whole words.
+pub fn inspect(words: &[u32], spare: bool) -> Result<Finding, LoadRefusal>
+    ensures { λ r. ⌜ Inspected (now (words .entry)) spare r ⌝ }
+{
+    let mut graph = Graph::new();
+    graph.load(words)?;
+    if spare {
+        return Err(LoadRefusal::Call(Refusal::BadEnd(words.len() as u32)));
+    }
+    Ok(Finding {
+        gates: graph.gates(),
+        wires: graph.wires(),
+        clock: graph.ticks().unwrap(),
+        period: graph.measure(),
+    })
+}

@@ -1,0 +1,5 @@
+pub mod Rights
+pub mod Rows
+pub mod Files
+pub mod Single
+pub mod Turns

@@ -1,0 +1,2 @@
+// Which words are a file: the machine that a load goes by.
+pub mod machine;

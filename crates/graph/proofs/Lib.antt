@@ -1,0 +1,7 @@
+pub mod Rows
+pub mod Gathering
+pub mod Paths
+pub mod Holds
+pub mod Ways
+pub mod Whole
+pub mod Fills

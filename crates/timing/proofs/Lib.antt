@@ -1,0 +1,11 @@
+pub mod Members
+pub mod Pushes
+pub mod Counting
+pub mod Chase
+pub mod Marking
+pub mod Blank
+pub mod Grouping
+pub mod Lowering
+pub mod Raising
+pub mod Seeding
+pub mod Stages

@@ -1,0 +1,4 @@
+pub mod Layout
+pub mod Trips
+pub mod Netlist
+pub mod Records
