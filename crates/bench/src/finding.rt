@@ -2,6 +2,8 @@ ghost use Rattle.bench.specs.Findings.{Inspected};
 use graph::Graph;
 use refusals::LoadRefusal;
 use refusals::Refusal;
+use refusals::shown::RefusalDisplay;
+use std::fmt;
 
 // What a file holds: its gates, the host counted, its wires, its clock, and the period or why there is none.
 #[derive(Drop)]
@@ -10,6 +12,32 @@ pub struct Finding {
     pub wires: usize,
     pub clock: u32,
     pub period: Result<u32, Refusal>,
+}
+
+pub impl fmt::Display for Finding as FindingDisplay {
+    fn fmt<W: fmt::Write>(&self, f: &mut fmt::Formatter<W>) -> fmt::Result {
+        let gates = self.gates;
+        let wires = self.wires;
+        let clock = self.clock;
+        writeln!(f, "gates {gates}, the host counted")?;
+        writeln!(f, "wires {wires}")?;
+        writeln!(f, "clock {clock}")?;
+        match &self.period {
+            Ok(period) if *period <= clock => {
+                write!(
+                    f,
+                    "period {period}\nthe clock is met as the registers stand"
+                )
+            }
+            Ok(period) => {
+                write!(
+                    f,
+                    "period {period}\nthe clock is not met as the registers stand"
+                )
+            }
+            Err(refusal) => write!(f, "no period: {refusal}"),
+        }
+    }
 }
 
 // What the words hold, or why they are no file; `spare` where bytes are left over beyond whole words.

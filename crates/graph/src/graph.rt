@@ -8,6 +8,7 @@ mod ends;
 mod joining;
 mod loading;
 mod measuring;
+mod reads;
 mod trying;
 
 pub use ends::Ends;

@@ -38,9 +38,10 @@ pub impl fmt::Display for LoadRefusal as LoadRefusalDisplay {
         match self {
             LoadRefusal::Call(refusal) => write!(f, "{refusal}"),
             LoadRefusal::Word { index, refusal } => {
+                let number = refusal.number();
                 write!(
                     f,
-                    "word {index} stands for a call that is refused: {refusal}"
+                    "refusal {number} at {index}: the word there stands for a call that meets {refusal}"
                 )
             }
         }

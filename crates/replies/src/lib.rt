@@ -1,6 +1,6 @@
 // The words of a reply: a cost, a gate's label, a refusal, and a limit of a chain.
 ghost use mathlib.Core.Path.{_≡_};
-ghost use Prim.Native.Nat.{ℕ, _<_};
+ghost use Prim.Native.Nat.{_<_};
 ghost use lib.IntN.{pos, negsuc};
 ghost use lib.Signed.{_≤ℤ_};
 ghost use Rattle.words.specs.Layout.{Makes};

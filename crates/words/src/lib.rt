@@ -1,6 +1,6 @@
 // The 32-bit words of a file: the top four bits are a word's kind, and each kind lays out its fields below them.
 ghost use mathlib.Core.Path.{_≡_};
-ghost use Prim.Native.Nat.{ℕ, _≤_, _<_};
+ghost use Prim.Native.Nat.{_≤_, _<_};
 ghost use Rattle.words.specs.Trips.{Trips};
 ghost use Rattle.words.specs.Layout.{kindOf, stray, limitRoom, delayOf, fromOf, toOf, priceOf, registersOf, floorOf, ceilingOf, clockOf, countOf, gateWord, wireWord, fillWord, clockWord, endWord, Makes};
 

@@ -6,8 +6,8 @@ use Rattle.std.specs.shelf.Lists.{countBy}
 use Rattle.std.proofs.shelf.Lists.{take-all}
 use Rattle.std.proofs.shelf.Sums.{countBy-more-yes, countBy-more-no}
 use Rattle.graph.specs.Tables.{nowhere}
-use Rattle.graph.proofs.graph.calls.count_live.Needs as need
-use Rattle.graph.proofs.graph.calls.count_live.Needs.{then-e, else-e}
+use Rattle.graph.proofs.graph.reads.count_live.Needs as need
+use Rattle.graph.proofs.graph.reads.count_live.Needs.{then-e, else-e}
 
 pub loop-e-again : need.loop-e-again
 loop-e-again c =
