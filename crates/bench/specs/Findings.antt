@@ -14,9 +14,10 @@ use Rattle.refusals.specs.declared.Refusal.the-variants.{BadEnd}
 use Rattle.words.specs.Netlist.{Netlist, Spells, circuitOf}
 use Rattle.file.specs.Faults.{FaultAt}
 use Rattle.graph.specs.Measures.{Measured}
+use Rattle.graph.specs.Critical.{Critical}
 use Rattle.bench.specs.declared.finding.Finding.{Finding}
 
--- the netlist that the words spell, in numbers: how many gates and wires, its clock, and the period of its circuit or refusal 14
+-- the netlist that the words spell, in numbers: how many gates and wires, its clock, and the period of its circuit with a path that takes so long, or refusal 14
 pub record Found (ws : List ℕ) (f : Finding) : Type 0 where
   pub netlist : Netlist
   pub spelled : Spells ws netlist
@@ -24,6 +25,7 @@ pub record Found (ws : List ℕ) (f : Finding) : Type 0 where
   pub wires : f .wires ≡ length (netlist .wires)
   pub clock : f .clock ≡ netlist .clock
   pub period : Measured (circuitOf netlist) (f .period)
+  pub slowest : Critical (circuitOf netlist) (f .slowest)
 
 -- the words spell a netlist, but bytes are left over
 pub record Overlong (ws : List ℕ) (e : LoadRefusal) : Type 0 where

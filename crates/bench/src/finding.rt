@@ -1,17 +1,20 @@
 ghost use Rattle.bench.specs.Findings.{Inspected};
 use graph::Graph;
+use graph::Run;
+use graph::RunDisplay;
 use refusals::LoadRefusal;
 use refusals::Refusal;
 use refusals::shown::RefusalDisplay;
 use std::fmt;
 
-// What a file holds: its gates, the host counted, its wires, its clock, and the period or why there is none.
+// What a file holds: its gates, the host counted, its wires, its clock, and the period with a path that takes so long, or why there is none.
 #[derive(Drop)]
 pub struct Finding {
     pub gates: usize,
     pub wires: usize,
     pub clock: u32,
     pub period: Result<u32, Refusal>,
+    pub slowest: Result<Run, Refusal>,
 }
 
 pub impl fmt::Display for Finding as FindingDisplay {
@@ -27,15 +30,19 @@ pub impl fmt::Display for Finding as FindingDisplay {
                 write!(
                     f,
                     "period {period}\nthe clock is met as the registers stand"
-                )
+                )?;
             }
             Ok(period) => {
                 write!(
                     f,
                     "period {period}\nthe clock is not met as the registers stand"
-                )
+                )?;
             }
-            Err(refusal) => write!(f, "no period: {refusal}"),
+            Err(refusal) => write!(f, "no period: {refusal}")?,
+        }
+        match &self.slowest {
+            Ok(run) if run.len > 0 => write!(f, "\nslowest path without registers:{run}"),
+            _ => Ok(()),
         }
     }
 }
@@ -54,5 +61,6 @@ pub fn inspect(words: &[u32], spare: bool) -> Result<Finding, LoadRefusal>
         wires: graph.wires(),
         clock: graph.ticks().unwrap(),
         period: graph.measure(),
+        slowest: graph.critical(),
     })
 }

@@ -2,7 +2,7 @@
 use mathlib.Core.Path.{_≡_, refl, sym, ap, subst, _∙_}
 use mathlib.Core.List.{List, [], _∷_}
 use mathlib.Core.Bool.{Bool, true, false, cond}
-use Prim.Native.Nat.{ℕ, _+_, _≤_, _<_}
+use Prim.Native.Nat.{ℕ, _+_, _*_, _≤_, _<_}
 use native.Mathlib.Omega.{arith}
 use lib.ListN.{length, getD, take}
 use Rattle.std.specs.shelf.Lists.{countBy}
@@ -21,6 +21,9 @@ use Rattle.graph.proofs.Rows.{row-length}
 
 pub gates-held : (g : Graph) → gates (circuit g) ≡ g .gates
 gates-held g = length-take-le (g .gates) (g .delays) (let a = g .small in let b = g .long .0 in omega arith)
+
+pub cells-held : (g : Graph) → gates (circuit g) * gates (circuit g) ≡ g .gates * g .gates
+cells-held g = ap (λ (n : ℕ). n * n) (gates-held g)
 
 pub wires-held : (g : Graph) → length (take (g .wired) (g .wires)) ≡ g .wired
 wires-held g = length-take-le (g .wired) (g .wires) (let a = g .short in let b = g .long .1 in omega arith)

@@ -5,3 +5,4 @@ pub mod Holds
 pub mod Ways
 pub mod Whole
 pub mod Fills
+pub mod Writing

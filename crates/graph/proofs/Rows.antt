@@ -10,10 +10,13 @@ use lib.ListN.{length, getD, set, take}
 use lib.Seq.{take-set-lt}
 use Rattle.std.specs.declared.option.Option.{Option}
 use Rattle.std.specs.declared.option.Option.the-variants.{Some, None}
-use Rattle.std.proofs.shelf.Lists.{take-more-set, length-take-le, length-take, getD-past, getD-take, getD-set-same, getD-set-other}
+use Rattle.std.proofs.shelf.Lists.{take-more, take-more-set, length-take-le, length-take, getD-past, getD-take, getD-set-same, getD-set-other}
 use Rattle.std.proofs.shelf.Tests.{cond-true, cond-false, lt-leb, le-ltb, or-from, lt-ltb}
 use Rattle.std.specs.declared.result.Result.the-variants.{Ok, Err}
-use Rattle.model.specs.Circuit.{Circuit, gates}
+use Rattle.std.specs.shelf.Lists.{All}
+use Rattle.words.specs.Netlist.{Joins}
+use Rattle.paths.specs.Arcs.{registersOf}
+use Rattle.model.specs.Circuit.{Circuit, kept, gates}
 use Rattle.refusals.specs.declared.Refusal.{Refusal}
 use Rattle.refusals.specs.declared.Refusal.the-variants.{WiresUsed, Range, NoWire}
 use Rattle.std.specs.Options.{isSome}
@@ -21,7 +24,7 @@ use Rattle.std.specs.declared.result.Result.{Result}
 use borrow.Author.Count.{below-more}
 use Rattle.model.specs.declared.Wire.{Wire}
 use Rattle.graph.specs.declared.graph.ends.Ends.{Ends}
-use Rattle.graph.specs.Tables.{nowhere, Between, Inside}
+use Rattle.graph.specs.Tables.{nowhere, Between, Inside, Ceilings}
 use Rattle.graph.specs.Reads.{wireBy, wireOf, wiresOf, circuitOf}
 use Rattle.graph.specs.Calls.{holding, wireAnswer, setAnswer}
 
@@ -41,6 +44,15 @@ wires-append [] xs [] ys e = refl
 wires-append [] xs (r ∷ rs) ys e = absurd (omega arith)
 wires-append (x ∷ es) xs [] ys e = absurd (omega arith)
 wires-append (x ∷ es) xs (r ∷ rs) ys e = ap (λ (ws : List (Option Wire)). wireOf x r ∷ ws) (wires-append es xs rs ys (omega arith))
+
+-- one more wire of the rows
+pub wires-more : (es : List Ends) (rs : List ℕ) (i : ℕ) → length rs ≡ length es → i < length es
+    → wiresOf (take (i + 1) es) (take (i + 1) rs) ≡ wiresOf (take i es) (take i rs) ++ wireOf (getD es i nowhere) (getD rs i 0) ∷ []
+wires-more es rs i e h =
+    let l : length (take i es) ≡ length (take i rs) = length-take-le i es (omega arith) ∙ sym (length-take-le i rs (omega arith)) in
+    ap (λ (xs : List Ends). wiresOf xs (take (i + 1) rs)) (take-more es i nowhere h)
+    ∙ ap (λ (ys : List ℕ). wiresOf (take i es ++ getD es i nowhere ∷ []) ys) (take-more rs i 0 (omega arith))
+    ∙ wires-append (take i es) (getD es i nowhere ∷ []) (take i rs) (getD rs i 0 ∷ []) l
 
 pub wires-set-registers : (es : List Ends) (rs : List ℕ) (k r : ℕ) → wiresOf es (set rs k r) ≡ set (wiresOf es rs) k (wireOf (getD es k nowhere) r)
 wires-set-registers [] rs k r = refl
@@ -126,6 +138,12 @@ wire-passed c from to registers price floor ceiling a b d e f g h i =
     ∙ cond-false _ _ _ (le-ltb 255 ceiling h)
     ∙ cond-false _ _ _ (le-ltb ceiling floor i)
 
+pub ceilings-more : (ws : List Ends) (n : ℕ) (e : Ends) → n < length ws → Ceilings ws n → e .ceiling ≤ 255 → Ceilings (set ws n e) (n + 1)
+ceilings-more ws n e h old b =
+    below-more (λ k. getD (set ws n e) k nowhere .ceiling ≤ 255) n
+    (λ k l. let ne : k ≢ n = omega arith in rw getD-set-other (old k l))
+    (rw getD-set-same b)
+
 pub inside-rows : (ws : List Ends) (n g m : ℕ) → length (take n ws) ≡ n → m ≡ g → Inside ws n g → Inside (take n ws) (length (take n ws)) m
 inside-rows ws n g m f e old k l =
     let lt : k < n = omega arith in
@@ -152,3 +170,31 @@ module _ (ds : List ℕ) (es : List Ends) (rs : List ℕ) (m : ℕ) (wire n : �
 
   pub set-fits : m ≤ length es → m ≤ length rs → wire < m → getD es wire nowhere .live ≡ true → n ≤ 255 → setAnswer held wire n ≡ Ok tt
   set-fits h l p t b = ap (answers wire n) (row-live es rs m h l wire p t) ∙ cond-false _ _ _ (le-ltb 255 n b)
+
+-- ---- the wires of the rows are in range
+pub rows-join : (es : List Ends) (rs : List ℕ) (n : ℕ) → ((k : ℕ) → k < length es → Between (n + 1) (getD es k nowhere)) → ((k : ℕ) → k < length es → getD es k nowhere .ceiling ≤ 255) → ((k : ℕ) → getD rs k 0 < 0x100) → All (Joins n) (kept (wiresOf es rs))
+rows-join [] rs n b c h = tt
+rows-join (e ∷ es) [] n b c h = tt
+rows-join (e ∷ es) (r ∷ rs) n b c h =
+    let i = b 0 (omega arith) in
+    let rest = rows-join es rs n (λ k l. b (suc k) (omega arith)) (λ k l. c (suc k) (omega arith)) (λ k. h (suc k)) in
+    let x0 = i .0 in
+    let x1 = i .1 in
+    let x5 = c 0 (omega arith) in
+    let j : Joins n (wireBy e r) = record { from = omega arith; to = omega arith; registers = h 0; cheap = i .3; priced = i .2; ordered = i .4; ceiling = omega arith } in
+    one (e .live) (wireBy e r) (wiresOf es rs) j rest
+  where
+    one : (b : Bool) (w : Wire) (ws : List (Option Wire)) → Joins n w → All (Joins n) (kept ws) → All (Joins n) (kept (cond b (Some w) None ∷ ws))
+    one true w ws j rest = (j, rest)
+    one false w ws j rest = rest
+
+-- every wire of the rows has at most 255 registers
+pub rows-deep : (es : List Ends) (rs : List ℕ) → ((k : ℕ) → getD rs k 0 < 0x100) → (i : ℕ) → registersOf (getD (wiresOf es rs) i None) ≤ 255
+rows-deep [] rs h i = omega arith
+rows-deep (e ∷ es) [] h i = omega arith
+rows-deep (e ∷ es) (r ∷ rs) h zero = one (e .live)
+  where
+    one : (b : Bool) → registersOf (cond b (Some (wireBy e r)) None) ≤ 255
+    one true = let a = h 0 in omega arith
+    one false = omega arith
+rows-deep (e ∷ es) (r ∷ rs) h (suc i) = rows-deep es rs (λ k. h (suc k)) i

@@ -5,7 +5,7 @@ use denote.Struct.Props.{props}
 use Prim.Native.Nat.{ℕ, _≤_, _<_}
 use lib.ListN.{getD, length}
 use Rattle.graph.specs.declared.graph.Graph.{Graph}
-use Rattle.graph.specs.Tables.{Inside, Ticks}
+use Rattle.graph.specs.Tables.{Inside, Ceilings, Ticks}
 
 pub same-graph : (s t : Graph) → s .delays ≡ t .delays → s .gates ≡ t .gates → s .wires ≡ t .wires → s .registers ≡ t .registers → s .wired ≡ t .wired → s .clock ≡ t .clock → s ≡ t
 same-graph s t d g w r n k = λ i.
@@ -22,5 +22,6 @@ same-graph s t d g w r n k = λ i.
       idle = isProp→PathP (λ j. getD (d j) 0 0 ≡ 0) (λ j. search props) (s .idle) (t .idle) i;
       long = isProp→PathP (λ j. (length (d j) ≡ 128) × (length (w j) ≡ 512) × (length (r j) ≡ 512)) (λ j. search props) (s .long) (t .long) i;
       inside = isProp→PathP (λ j. Inside (w j) (n j) (g j)) (λ j. search props) (s .inside) (t .inside) i;
+      capped = isProp→PathP (λ j. Ceilings (w j) (n j)) (λ j. search props) (s .capped) (t .capped) i;
       ticks = isProp→PathP (λ j. Ticks (k j)) (λ j. search props) (s .ticks) (t .ticks) i;
     }

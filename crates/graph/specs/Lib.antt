@@ -5,3 +5,6 @@ pub mod Measures
 pub mod Joins
 pub mod Tries
 pub mod Loading
+pub mod Writing
+pub mod Tabling
+pub mod Critical

@@ -19,6 +19,10 @@ Between gates e = (e .from < gates) × (e .to < gates) × (1 ≤ e .price) × (e
 abbrev pub Inside : List Ends → ℕ → ℕ → Type 0
 Inside wires wired gates = (k : ℕ) → k < wired → Between gates (getD wires k nowhere)
 
+-- each ceiling is at most 255
+abbrev pub Ceilings : List Ends → ℕ → Type 0
+Ceilings wires wired = (k : ℕ) → k < wired → getD wires k nowhere .ceiling ≤ 255
+
 abbrev pub ticksTest : Option ℕ → Bool
 ticksTest None = true
 ticksTest (Some c) = leb 1 c && leb c 16777215

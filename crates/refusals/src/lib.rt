@@ -6,40 +6,48 @@ use std::fmt;
 
 pub mod shown;
 
+// Why a call is refused. The number in a case is its place; a case without one has place 0.
 #[derive(Clone, Copy)]
 pub enum Refusal {
-    // an argument, by its position, is out of range
+    // 1: the argument at that position is out of range.
     Range(u32),
-    // an argument, by its position, names no gate
+    // 2: the argument at that position names no gate.
     NoGate(u32),
-    // the wire of that number is not there, or was dropped
+    // 3: no wire has that number, or it was dropped.
     NoWire(u32),
-    // the floor is above the ceiling, or the least above the most; the position of the first of the two
+    // 4: a floor above its ceiling, or a least above its most; the position of the first of the two.
     Reversed(u32),
-    // the memory at that place is too short
+    // 5: the memory at that place is too short.
     Memory(u32),
+    // 6: the rule lists over 1,024 limits.
     RuleTooLong,
-    // the word at the index may not stand there
+    // 7: the word at that index may not stand there.
     NotNext(u32),
-    // the word at the index sets a bit that its kind does not name
+    // 8: the word at that index has a bit set that its kind does not name.
     StrayBit(u32),
-    // the end at the index has a wrong count; or the count of words where the end is missing
+    // 9: the end at that index has a wrong count; or that many words stand there, and no end.
     BadEnd(u32),
-    // the word at the index follows the end
+    // 10: the word at that index follows the end.
     AfterEnd(u32),
-    // the table is full: of gates 0, of what is held 1, of both together 2
+    // 11: a table is full: the gates' is 0, a hold rule's 1, a together rule's 2.
     Full(u32),
+    // 12: every wire number is given.
     WiresUsed,
+    // 13: no clock is set.
     NoClock,
-    // the lowest gate on a loop without registers
+    // 14: a loop without registers; the lowest gate on one.
     Loop(u32),
+    // 15: the log is full.
     LogFull,
-    // no labelling meets the limits; the length of the chain that shows it
+    // 16: no labelling keeps all; the length of the chain that shows it.
     NoLabelling(u32),
-    // the lowest gate that no run of wires joins to the host
+    // 17: the lowest gate that no run of wires joins to the host.
     Apart(u32),
+    // 18: the log is empty.
     LogEmpty,
+    // 19: an answer waits.
     Waiting,
+    // 20: the slip is another session's, or no answer waits.
     WrongSlip,
 }
 

@@ -17,6 +17,7 @@ use Rattle.words.specs.Netlist.{circuitOf}
 use Rattle.file.proofs.Single.{file-long}
 use Rattle.graph.specs.Reads.{circuit}
 use Rattle.graph.specs.Measures.{Measured}
+use Rattle.graph.specs.Critical.{Critical}
 use Rattle.bench.specs.declared.finding.Finding.{Finding}
 use Rattle.bench.specs.Findings.{Inspected}
 use Rattle.bench.proofs.Findings.{kept-all, some-same}
@@ -60,6 +61,7 @@ returns c =
           gates = c .gates .ensures .count ∙ ap gates is;
           wires = c .wires .ensures ∙ ap (λ (d : Circuit). length (live d)) is ∙ ap length (kept-all (n .wires));
           clock = some-same (c .unwrap .result) (n .clock) (sym (c .unwrap .ensures) ∙ c .ticks .ensures ∙ l .held .clock);
+          slowest = subst (λ (d : Circuit). Critical d (c .critical .result)) is (c .critical .ensures);
           period = subst (λ (d : Circuit). Measured d (c .measure .result)) is (c .measure .ensures);
         },
       );

@@ -11,7 +11,7 @@ use Rattle.std.proofs.shelf.Tests.{cond-true, cond-false, le-leb, lt-leb}
 use Rattle.model.specs.declared.Wire.{Wire}
 use Rattle.refusals.specs.declared.Refusal.{Refusal}
 use Rattle.graph.specs.Reads.{circuit}
-use Rattle.graph.proofs.Rows.{row-length, row-more, inside-more, wire-passed}
+use Rattle.graph.proofs.Rows.{row-length, row-more, inside-more, ceilings-more, wire-passed}
 use Rattle.graph.proofs.graph.Graph.wire.Needs as need
 
 pub returns-then-self-ge512 : need.returns-then-self-ge512
@@ -33,7 +33,7 @@ pub ghost-self : need.ghost-self
 ghost-self c =
     let s = c .args .self .now in
     let room : s .wired < length (s .wires) = omega arith in
-    (s .some, (s .small, (omega arith, (s .idle, ((s .long .0, length-set (s .wires) (s .wired) _ ∙ s .long .1, length-set (s .registers) (s .wired) _ ∙ s .long .2), (inside-more (s .wires) (s .wired) (s .gates) _ room (s .inside) (omega arith, omega arith, omega arith, omega arith, omega arith), (s .ticks, tt)))))))
+    (s .some, (s .small, (omega arith, (s .idle, ((s .long .0, length-set (s .wires) (s .wired) _ ∙ s .long .1, length-set (s .registers) (s .wired) _ ∙ s .long .2), (inside-more (s .wires) (s .wired) (s .gates) _ room (s .inside) (omega arith, omega arith, omega arith, omega arith, omega arith), (ceilings-more (s .wires) (s .wired) _ room (s .capped) (omega arith), (s .ticks, tt))))))))
 
 pub returns : need.returns
 returns c =

@@ -1,0 +1,4 @@
+pub mod Wired
+pub mod Routes
+pub mod Filling
+pub mod Slow

@@ -1,0 +1,10 @@
+pub mod KindLaws
+pub mod Near
+pub mod Cells
+pub mod Few
+pub mod Good
+pub mod Uses
+pub mod Fairs
+pub mod Steps
+pub mod Emptied
+pub mod Turns
