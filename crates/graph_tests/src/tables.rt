@@ -39,6 +39,27 @@ fn a_row_of_three() -> Result<(), Fail> {
     Ok(())
 }
 
+// Two gates fed by the host through a register each join a third, which feeds the host.
+#[test]
+fn a_join() -> Result<(), Fail> {
+    let mut g = Graph::new();
+    for delay in [1, 1, 1] {
+        let _ = g.gate(delay);
+    }
+    for (from, to, registers) in [(0, 1, 1), (0, 2, 1), (1, 3, 0), (2, 3, 0), (3, 0, 0)] {
+        let _ = g.wire(from, to, registers, 1, 0, 255);
+    }
+    let mut least = [0u32; 16];
+    let mut most = [0u32; 16];
+    check_eq(g.paths(&mut least, &mut most), Ok(()))?;
+    check_eq((least[5], most[5]), (0, 1))?;
+    check_eq((least[6], most[6]), (NONE, 0))?;
+    check_eq((least[7], most[7]), (0, 2))?;
+    check_eq((g.measure(), g.trial(2, 1)), (Ok(2), Ok(2)))?;
+    check_eq(g.set(3, 1), Ok(()))?;
+    check_eq((g.measure(), g.trial(2, 1)), (Ok(2), Ok(1)))
+}
+
 // Of two paths from 1 to 3 without registers the slower one counts, and none through the host.
 #[test]
 fn the_slowest_of_the_lightest() -> Result<(), Fail> {
