@@ -1,8 +1,10 @@
 // The repair bench: reads a file of words from standard input, and prints what it holds and how fast its graph clocks.
+#![tactic(auto)]
+
 mod finding;
 mod input;
 
-use bytes::read_words;
+use word_bytes::read_words;
 use finding::inspect;
 use input::read_input;
 

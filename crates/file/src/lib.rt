@@ -1,2 +1,4 @@
 // Which words are a file: the machine that a load goes by.
+#![tactic(auto)]
+
 pub mod machine;

@@ -1,3 +1,5 @@
+#![tactic(auto)]
+
 mod graph;
 
 pub use graph::{Graph, Run, written_again};

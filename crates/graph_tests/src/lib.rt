@@ -1,4 +1,6 @@
 // Examples of a graph's calls, run and compared with what they answer.
+#![tactic(auto)]
+
 #[cfg(test)]
 mod calls;
 #[cfg(test)]

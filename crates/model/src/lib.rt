@@ -1,4 +1,6 @@
 // Leiserson and Saxe's retiming: its definitions are in specs/, and each theorem here is a function's contract.
+#![tactic(auto)]
+
 ghost use Rattle.model.specs.Examples.{Worked};
 ghost use Rattle.model.specs.Theorems.{PathSum, ClockByLimits, ValuesStay, RetimedMoves, StandsBelow, LeastByAmounts, NoneByChain, MovesAdd, OneEach, Applied, PlacesAreLimits, PlacesSuffice};
 

@@ -1,4 +1,6 @@
 // Why a call is refused, and why a load is: each refusal has a number and a place.
+#![tactic(auto)]
+
 ghost use Rattle.std.specs.Prelude.{◌≡◌, Decides};
 ghost use Rattle.refusals.specs.Refusals.{number_of, place_of, load_number_of, load_place_of};
 ghost use Rattle.std.specs.Cmp.Rules.{comparing};

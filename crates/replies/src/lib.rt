@@ -1,4 +1,6 @@
 // The words of a reply: a cost, a gate's label, a refusal, and a limit of a chain.
+#![tactic(auto)]
+
 ghost use Rattle.std.specs.Prelude.{◌≡◌, ◌<◌, pos, negsuc, ◌≤ℤ◌};
 ghost use Rattle.words.specs.Layout.{Makes};
 ghost use Rattle.replies.specs.Trips.{ReplyTrips};

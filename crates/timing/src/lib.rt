@@ -1,3 +1,5 @@
+#![tactic(auto)]
+
 ghost use Rattle.std.specs.Prelude.{◌≡◌, ℕ, ◌+◌, ◌<◌, ◌≤◌, [], length, count_by, slice_index};
 ghost use Rattle.ring.specs.Held.{held, room};
 ghost use Rattle.timing.specs.Arcs.{Within, Ended, into, Timed, Walk};

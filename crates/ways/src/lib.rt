@@ -1,4 +1,6 @@
 // Shortest ways over any kind of distance, each kept as a walk that comes to no vertex twice.
+#![tactic(auto)]
+
 mod distance;
 mod net;
 mod shortest;

@@ -1,4 +1,6 @@
 // The 32-bit words of a file: the top four bits are a word's kind, and each kind lays out its fields below them.
+#![tactic(auto)]
+
 ghost use Rattle.std.specs.Prelude.{◌≡◌, ◌<◌, ◌≤◌};
 ghost use Rattle.words.specs.Trips.{Trips};
 ghost use Rattle.words.specs.Layout.{kind_of, stray, limit_room, delay_of, from_of, to_of, price_of, registers_of, floor_of, ceiling_of, clock_of, count_of, gate_word, wire_word, fill_word, clock_word, end_word, Makes};

@@ -1,4 +1,6 @@
 // Puts the words of a netlist into a memory: gates, wires with their fills, clock and end.
+#![tactic(auto)]
+
 ghost use Rattle.std.specs.Prelude.{◌≡◌, ℕ, ◌+◌, ◌*◌, ◌<◌, ◌≤◌, map, length};
 ghost use Rattle.std.specs.List.{AllByRecursion as All};
 ghost use Rattle.model.specs.Circuit.{kept};

@@ -1,8 +1,8 @@
 use Rattle.std.proofs.Common.{Some, sym, ap, ◌∙◌, arith}
 use Rattle.std.proofs.lemmas.Option.{slice_get_past}
-use Rattle.bytes.specs.Bytes.{words_of}
-use Rattle.bytes.proofs.Fours as lemma
-use Rattle.bytes.proofs.word_at.Goals as goal
+use Rattle.word_bytes.specs.Bytes.{words_of}
+use Rattle.word_bytes.proofs.Fours as lemma
+use Rattle.word_bytes.proofs.word_at.Goals as goal
 
 pub returns-then-i-bytes : goal.returns-then-i-bytes
 returns-then-i-bytes c =

@@ -1,7 +1,9 @@
 // Words as bytes: four to a word, the lowest first.
+#![tactic(auto)]
+
 ghost use Rattle.std.specs.Prelude.{◌≡◌, IfOk};
 ghost use Rattle.std.specs.List.{slice_get};
-ghost use Rattle.bytes.specs.Bytes.{words_of, Puts, ReadBack};
+ghost use Rattle.word_bytes.specs.Bytes.{words_of, Puts, ReadBack};
 
 use std::alloc::{AllocError, Global};
 

@@ -1,8 +1,8 @@
 use Rattle.std.proofs.Common.{ℕ, List, [], ◌∷◌, ◌++◌, sym, ap, ◌∙◌, arith, rules}
 use Rattle.std.proofs.lemmas.List.{take_all}
-use Rattle.bytes.specs.Bytes.{words_of}
-use Rattle.bytes.proofs.Fours as lemma
-use Rattle.bytes.proofs.read_words.Goals as goal
+use Rattle.word_bytes.specs.Bytes.{words_of}
+use Rattle.word_bytes.proofs.Fours as lemma
+use Rattle.word_bytes.proofs.read_words.Goals as goal
 
 pub overflow-add-i : goal.overflow-add-i
 overflow-add-i c =

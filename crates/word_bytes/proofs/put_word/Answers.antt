@@ -2,9 +2,9 @@ use Rattle.std.proofs.Common.{◌≡◌, ◌+◌, ◌-◌, ◌*◌, ◌++◌, ta
 use borrow.Rule.Slice.PartMut.{put_mid}
 use Rattle.std.proofs.lemmas.List.{append_assoc}
 use Rattle.std.proofs.lemmas.Slice.{put_mid-paste}
-use Rattle.bytes.specs.Bytes.{bytes_of, words_of}
-use Rattle.bytes.proofs.Fours as lemma
-use Rattle.bytes.proofs.put_word.Goals as goal
+use Rattle.word_bytes.specs.Bytes.{bytes_of, words_of}
+use Rattle.word_bytes.proofs.Fours as lemma
+use Rattle.word_bytes.proofs.put_word.Goals as goal
 
 pub returns-then-i-bytes : goal.returns-then-i-bytes
 returns-then-i-bytes c = record { outcome = record { short = omega arith; same = refl } }

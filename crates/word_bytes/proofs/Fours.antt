@@ -4,7 +4,7 @@ use Rattle.std.specs.List.{flat_map, AllByRecursion as All, slice_get}
 use Rattle.std.proofs.lemmas.List.{take_more}
 use Rattle.std.proofs.lemmas.Option.{slice_get-get_or, slice_get_past}
 use Rattle.std.proofs.lemmas.Bool.{cases_lt}
-use Rattle.bytes.specs.Bytes.{word_of, bytes_of, words_of}
+use Rattle.word_bytes.specs.Bytes.{word_of, bytes_of, words_of}
 
 -- a word is made of its bytes, and gives them back
 pub word_back : (w : ℕ) → w < 2 ^ 32 → word_of (w % 0x100) (w / 0x100 % 0x100) (w / 0x1_0000 % 0x100) (w / 0x100_0000 % 0x100) ≡ w
