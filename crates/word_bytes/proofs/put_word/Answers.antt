@@ -13,8 +13,8 @@ pub returns : goal.returns
 returns c =
     let old = c.args.bytes.now in
     let at = 4 * c.args.i in
-    let e : put_mid at (at + 4 - at) old c.copy-from-slice.new.self ≡ take at old ++ (bytes_of c.args.word ++ drop (at + 4) old) =
-    put_mid-paste at (at + 4 - at) old c.copy-from-slice.new.self (bytes_of c.args.word) 4 (c.copy-from-slice.ensures.after ∙ c.to-le-bytes.ensures) (omega arith) refl
+    let e : put_mid at (at + 4 - at) old c.copy_from_slice.new.self ≡ take at old ++ (bytes_of c.args.word ++ drop (at + 4) old) =
+    put_mid-paste at (at + 4 - at) old c.copy_from_slice.new.self (bytes_of c.args.word) 4 (c.copy_from_slice.ensures.after ∙ c.to_le_bytes.ensures) (omega arith) refl
     ∙ append_assoc (take at old) (bytes_of c.args.word) (drop (at + 4) old) in
     record {
       outcome = record {

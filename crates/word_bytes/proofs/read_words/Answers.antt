@@ -18,11 +18,11 @@ loop-word-smaller c =
 
 pub loop-word-preserved : goal.loop-word-preserved
 loop-word-preserved c =
-    c.in-ok-push.ensures.items
+    c.in_ok-push.ensures.items
     ∙ ap (λ (xs : List ℕ). xs ++ c.in-Some.word ∷ []) c.loop-word.invariant
     ∙ sym (lemma.one_more (words_of c.args.bytes.now) c.loop-word.i c.in-Some.word c.in-Some.ensures).1
 
 pub returns : goal.returns
 returns c =
     c.loop-word.invariant
-    ∙ take_all c.loop-word.i (words_of c.args.bytes.now) (lemma.no_more (words_of c.args.bytes.now) c.loop-word.i c.in-default.ensures)
+    ∙ take_all c.loop-word.i (words_of c.args.bytes.now) (lemma.no_more (words_of c.args.bytes.now) c.loop-word.i c.in_default.ensures)

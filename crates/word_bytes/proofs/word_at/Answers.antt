@@ -10,4 +10,4 @@ returns-then-i-bytes c =
     sym (slice_get_past (words_of c.args.bytes.now) c.args.i (omega arith))
 
 pub returns : goal.returns
-returns c = ap Some c.from-le-bytes.ensures ∙ sym (lemma.word_at c.args.i c.args.bytes.now (omega arith))
+returns c = ap Some c.from_le_bytes.ensures ∙ sym (lemma.word_at c.args.i c.args.bytes.now (omega arith))
