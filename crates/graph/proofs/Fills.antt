@@ -1,6 +1,6 @@
 -- A file's graph, record by record: each call is taken, and adds what the record says.
 use Rattle.std.proofs.Common.{◌≡◌, ℕ, zero, suc, ◌+◌, ◌*◌, ◌<◌, ◌≤◌, Bool, true, false, cond, ltb, leb, ◌⊎◌, List, [], ◌∷◌, ◌++◌, map, length, get_or, take, drop, Some, None, Ok, Err, Option, Result, sym, refl, ap, ◌∙◌, subst, inl, inr, add-one, arith}
-use Rattle.std.specs.List.{AllByRecursion as All}
+use Rattle.std.specs.List.{AllByRecursion}
 use Rattle.std.proofs.lemmas.List.{append-nil, append_assoc, map_push, length-append, length-map, length-take, length-drop}
 use Rattle.std.proofs.lemmas.Bool.{lt-ltb, le-ltb, lt-leb, cond-true, cond-false, or_from}
 use Rattle.words.specs.declared.Kind.{Kind}
@@ -28,8 +28,8 @@ pub record Todo (n : Netlist) (rest : List ℕ) (c : Circuit) (left : List ℕ) 
   pub count : ℕ
   pub delays_are : n.delays ≡ gone ++ left
   pub wires_are : n.wires ≡ made ++ later
-  pub short : All (λ d. d < 0x1_0000) left
-  pub joins : All (Joins (length n.delays)) later
+  pub short : AllByRecursion (λ d. d < 0x1_0000) left
+  pub joins : AllByRecursion (Joins (length n.delays)) later
   pub rest_is : rest ≡ map gate_word left ++ (body ++ (clock_word n.clock ∷ end_word count ∷ []))
   pub small : count < 0x1000_0000
   pub gates_in : c.delays ≡ 0 ∷ gone
@@ -197,14 +197,14 @@ module _ (ws : List ℕ) (at : ℕ) (c : Circuit) (t : Option ℕ) (part : List 
       })
 
   -- no fill stands where wires or the clock go on
-  no_fill_at : (k count : ℕ) {later : List Wired} {body : List ℕ} → WireWords later body → All (Joins (length n.delays)) later → drop k ws ≡ body ++ (clock_word n.clock ∷ end_word count ∷ []) → fills_at ws k ≡ false
+  no_fill_at : (k count : ℕ) {later : List Wired} {body : List ℕ} → WireWords later body → AllByRecursion (Joins (length n.delays)) later → drop k ws ≡ body ++ (clock_word n.clock ∷ end_word count ∷ []) → fills_at ws k ≡ false
   no_fill_at k count q j r = settled (ltb k (length ws)) (kind q j r)
     where
       settled : (b : Bool) {e : Bool} → e ≡ false → cond b e false ≡ false
       settled true e = e
       settled false e = refl
 
-      kind : {later : List Wired} {body : List ℕ} → WireWords later body → All (Joins (length n.delays)) later → drop k ws ≡ body ++ (clock_word n.clock ∷ end_word count ∷ []) → is_fill (kind_of (get_or ws k 0)) ≡ false
+      kind : {later : List Wired} {body : List ℕ} → WireWords later body → AllByRecursion (Joins (length n.delays)) later → drop k ws ≡ body ++ (clock_word n.clock ∷ end_word count ∷ []) → is_fill (kind_of (get_or ws k 0)) ≡ false
       kind none j r = ap is_fill (here_is ws k _ _ Clock r (trips.clock n.clock file.fits.limit).0.kind)
       kind (alone {from} {to} q) j r = ap is_fill (here_is ws k _ _ Wire r (wire_kind n (bare from to) file.fits j.0))
       kind (filled {v} q) j r = ap is_fill (here_is ws k _ _ Wire r (wire_kind n v file.fits j.0))

@@ -3,7 +3,7 @@ use Rattle.std.proofs.Common.{◌≡◌, ℕ, zero, suc, ◌+◌, ◌<◌, ◌�
 use lib.Seq.{take-set-lt}
 use Rattle.std.proofs.lemmas.List.{take_more, take_more_set, length-take-le, length-take, get_or_past, get_or-take, get_or-set_same, get_or-set_other}
 use Rattle.std.proofs.lemmas.Bool.{cond-true, cond-false, lt-leb, le-ltb, or_from, lt-ltb}
-use Rattle.std.specs.List.{AllByRecursion as All}
+use Rattle.std.specs.List.{AllByRecursion}
 use Rattle.words.specs.Netlist.{Joins}
 use Rattle.paths.specs.Arcs.{registers_of}
 use Rattle.model.specs.Circuit.{Circuit, kept, gates}
@@ -159,7 +159,7 @@ module _ (ds : List ℕ) (es : List Ends) (rs : List ℕ) (m : ℕ) (wire n : �
   set_fits h l p t b = ap (answers wire n) (row_live es rs m h l wire p t) ∙ cond-false _ _ _ (le-ltb 255 n b)
 
 -- ---- the wires of the rows are in range
-pub rows_join : (es : List Ends) (rs : List ℕ) (n : ℕ) → ((k : ℕ) → k < length es → Between (n + 1) (get_or es k nowhere)) → ((k : ℕ) → k < length es → (get_or es k nowhere).ceiling ≤ 255) → ((k : ℕ) → get_or rs k 0 < 0x100) → All (Joins n) (kept (wires_of es rs))
+pub rows_join : (es : List Ends) (rs : List ℕ) (n : ℕ) → ((k : ℕ) → k < length es → Between (n + 1) (get_or es k nowhere)) → ((k : ℕ) → k < length es → (get_or es k nowhere).ceiling ≤ 255) → ((k : ℕ) → get_or rs k 0 < 0x100) → AllByRecursion (Joins n) (kept (wires_of es rs))
 rows_join [] rs n b c h = tt
 rows_join (e ∷ es) [] n b c h = tt
 rows_join (e ∷ es) (r ∷ rs) n b c h =
@@ -171,7 +171,7 @@ rows_join (e ∷ es) (r ∷ rs) n b c h =
     let j : Joins n (wire_by e r) = record { from = omega arith; to = omega arith; registers = h 0; cheap = i.3; priced = i.2; ordered = i.4; ceiling = omega arith } in
     one e.live (wire_by e r) (wires_of es rs) j rest
   where
-    one : (b : Bool) (w : Wire) (ws : List (Option Wire)) → Joins n w → All (Joins n) (kept ws) → All (Joins n) (kept (cond b (Some w) None ∷ ws))
+    one : (b : Bool) (w : Wire) (ws : List (Option Wire)) → Joins n w → AllByRecursion (Joins n) (kept ws) → AllByRecursion (Joins n) (kept (cond b (Some w) None ∷ ws))
     one true w ws j rest = (j, rest)
     one false w ws j rest = rest
 

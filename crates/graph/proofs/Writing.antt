@@ -1,6 +1,6 @@
 -- The file of a graph's tables, and that it loads as the same graph.
 use Rattle.std.proofs.Common.{◌≡◌, ℕ, suc, ◌+◌, ◌-◌, ◌*◌, ◌<◌, ◌≤◌, Bool, true, false, ◌&&◌, leb, List, [], ◌∷◌, ◌++◌, map, length, get_or, take, drop, Some, None, Ok, Err, Option, Result, sym, refl, ap, ◌∙◌, subst, arith}
-use Rattle.std.specs.List.{AllByRecursion as All}
+use Rattle.std.specs.List.{AllByRecursion}
 use Rattle.std.proofs.lemmas.List.{length-append, length-map, length-take-le, length-drop, get_or-take}
 use Rattle.std.proofs.lemmas.Slice.{between_is}
 use Rattle.std.proofs.lemmas.Bool.{and_parts, leb-true}
@@ -50,7 +50,7 @@ module _ (g : Graph) (bytes : (k : ℕ) → get_or (take g.wired g.registers) k 
   gates_long : length ds ≡ g.gates - 1
   gates_long = length-take-le (g.gates - 1) (drop 1 g.delays) (let h = length-drop 1 g.delays in let a = g.small in let b = g.long.0 in omega arith)
 
-  joins : All (Joins (g.gates - 1)) (live (circuit g))
+  joins : AllByRecursion (Joins (g.gates - 1)) (live (circuit g))
   joins =
       let w = wires_held g in
       rows_join (take g.wired g.wires) (take g.wired g.registers) (g.gates - 1)
@@ -73,7 +73,7 @@ module _ (g : Graph) (bytes : (k : ℕ) → get_or (take g.wired g.registers) k 
       record {
         few = let a = g.small in let b = g.some in omega arith;
         held = let a = ap length same in let b = numbers_held g in let c = g.short in omega arith;
-        joins = subst (λ (n : ℕ). All (Joins n) (kept (take g.wired list))) (sym l) (subst (λ (ws : List (Option Wire)). All (Joins (g.gates - 1)) (kept ws)) (sym same) joins);
+        joins = subst (λ (n : ℕ). AllByRecursion (Joins n) (kept (take g.wired list))) (sym l) (subst (λ (ws : List (Option Wire)). AllByRecursion (Joins (g.gates - 1)) (kept ws)) (sym same) joins);
         ticks = r.0;
         limit = r.1;
       }

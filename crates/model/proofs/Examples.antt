@@ -1,10 +1,10 @@
 -- The worked graphs: each row by a test that antt computes.
-use Rattle.std.proofs.Common.{◌≡◌, ℕ, List, [], ◌∷◌, get_or, ℤ, pos, negsuc, Some, None, Option, refl, ap, inl, inr, arith}
+use Rattle.std.proofs.Common.{ℕ, List, [], ◌∷◌, get_or, pos, negsuc, Some, None, refl, ap, inl, inr, arith}
 use lib.Signed.{lt_z_yes}
-use Rattle.std.specs.List.{AllByRecursion as All}
-use Rattle.model.specs.Circuit.{Wire, Circuit, Path, Inner, Link, live, NoFreeLoop, IsPeriod, ◌∈◌}
-use Rattle.model.specs.Limits.{Limit, IsAnswer, IsLimit, by_floor, by_ceiling, by_clock, by_rule, BadChain, Chain, end, link, Share}
-use Rattle.model.specs.Examples.{R, R_empty, J, through_host, host_alone, labels, limit, share, hold_3, together_1_3, Best, Refused, Worked}
+use Rattle.std.specs.List.{AllByRecursion}
+use Rattle.model.specs.Circuit.{Wire, Circuit, Inner, Link, live, NoFreeLoop, IsPeriod, ◌∈◌}
+use Rattle.model.specs.Limits.{Limit, IsLimit, by_floor, by_rule, BadChain, end, link}
+use Rattle.model.specs.Examples.{R, R_empty, J, through_host, host_alone, limit, share, hold_3, together_1_3, Best, Refused, Worked}
 use Rattle.model.proofs.Clock.{starts}
 use Rattle.model.proofs.Duality.{none_by_chain}
 use Rattle.model.proofs.Certificates.{is_period, answers, by_table, all_in, balanced, stop, via, lives_at, wire_at, Entry}
@@ -15,7 +15,7 @@ bounds xs g = get_or xs g 0
 abbrev column : List Entry → ℕ → Entry
 column xs g = get_or xs g None
 
-refused : (c : Circuit) (t : ℕ) (rule ls : List Limit) → BadChain ls → All (IsLimit c t rule) ls → Refused c t rule ls
+refused : (c : Circuit) (t : ℕ) (rule ls : List Limit) → BadChain ls → AllByRecursion (IsLimit c t rule) ls → Refused c t rule ls
 refused c t rule ls bad limits =
     let each = all_in (IsLimit c t rule) ls limits in
     record { chain = bad; limits = each; none = none_by_chain c t rule ls bad each }

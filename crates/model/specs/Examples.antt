@@ -1,8 +1,8 @@
 -- Two worked graphs.
-use Rattle.std.specs.Prelude.{◌≡◌, ℕ, List, [], ◌∷◌, map, ℤ, pos, negsuc, Some, None, Option, slice_index_or}
+use Rattle.std.specs.Prelude.{◌≡◌, ℕ, List, [], ◌∷◌, map, ℤ, pos, negsuc, Some, Option, slice_index_or}
 use Rattle.model.specs.Circuit.{Wire, Circuit, live, NoFreeLoop, IsPeriod, ◌∈◌}
 use Rattle.model.specs.Labels.{cost, retimed}
-use Rattle.model.specs.Limits.{Limit, IsAnswer, Keeps, BadChain, IsLimit, Share, Balanced, standing, floor_limit}
+use Rattle.model.specs.Limits.{Limit, IsAnswer, Keeps, BadChain, IsLimit, Share, Balanced, standing}
 
 -- price 1, floor 0, ceiling 255
 abbrev pub plain : ℕ → ℕ → ℕ → Option Wire

@@ -1,5 +1,5 @@
 -- Number and place tell which refusal it is.
-use Rattle.std.proofs.Common.{◌≡◌, ℕ, ◌-◌, List, [], ◌∷◌, get_or, sym, refl, ap, ◌∙◌}
+use Rattle.std.proofs.Common.{◌≡◌, ℕ, ◌-◌, [], ◌∷◌, get_or, sym, refl, ap, ◌∙◌}
 use Rattle.refusals.specs.declared.Refusal.{Refusal}
 use Rattle.refusals.specs.declared.Refusal.TheVariants.{Range, NoGate, NoWire, Reversed, Memory, RuleTooLong, NotNext, StrayBit, BadEnd, AfterEnd, Full, WiresUsed, NoClock, Loop, LogFull, NoLabelling, Apart, LogEmpty, Waiting, WrongSlip}
 use Rattle.refusals.specs.Refusals.{number_of, place_of}

@@ -1,11 +1,11 @@
 // Why a call is refused, and why a load is: each refusal has a number and a place.
 #![tactic(auto)]
 
-ghost use Rattle.std.specs.Prelude.{◌≡◌, Decides};
+ghost use Rattle.std.specs.Prelude.{◌≡◌, ◌==◌, Decides};
 ghost use Rattle.refusals.specs.Refusals.{number_of, place_of, load_number_of, load_place_of};
 ghost use Rattle.std.specs.Cmp.Rules.{comparing};
 ghost use Rattle.std.proofs.Common.{rules};
-ghost use Rattle.std.specs.Cmp as Keys;
+ghost use Rattle.std.specs.Ordering.{on, eq_of_both};
 
 use std::fmt;
 
@@ -115,11 +115,14 @@ impl Refusal {
 
 // Number and place tell which refusal it is.
 impl PartialEq for Refusal {
-    ghost equals = { λ x y r. Decides r (x ≡ y) };
+    ghost eq = { eq_of_both (on number_of ◌==◌) (on place_of ◌==◌) };
 
-    ghost laws = { Keys.partial_equiv_from_equiv (Prim.search (comparing, rules)) };
+    ghost laws = { Prim.search (comparing, rules) };
 
-    fn eq(&self, other: &Refusal) -> bool {
+    fn eq(&self, other: &Refusal) -> bool
+        ensures computed { result ≡ eq_of_both (on number_of ◌==◌) (on place_of ◌==◌) self.now other.now }
+        ensures same { Decides result (self.now ≡ other.now) }
+    {
         self.number() == other.number() && self.place() == other.place()
     }
 }

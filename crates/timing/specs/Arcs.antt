@@ -1,5 +1,5 @@
 -- Arcs between gates, and the walks and runs along them.
-use Rattle.std.specs.Prelude.{◌≡◌, ℕ, ◌+◌, ◌<◌, ◌≤◌, Bool, not, ◌&&◌, ◌⊎◌, List, length, get_or, Some, None, count_by, Option, ◌==◌, slice_index, slice_index_or}
+use Rattle.std.specs.Prelude.{◌≡◌, ℕ, ◌+◌, ◌<◌, ◌≤◌, Bool, not, ◌&&◌, ◌⊎◌, List, length, slice_index_or, Some, None, count_by, Option, ◌==◌, slice_index}
 use Rattle.timing.specs.declared.Arc.{Arc}
 
 abbrev pub nowhere : Arc
@@ -17,14 +17,14 @@ Within n arcs = (k : ℕ) → k < length arcs → Inside n (slice_index_or arcs 
 
 -- every arc leaves and enters a gate below n
 abbrev pub Ended : ℕ → List Arc → Type 0
-Ended n arcs = (k : ℕ) → k < length arcs → ((get_or arcs k nowhere).from < n) × ((get_or arcs k nowhere).to < n)
+Ended n arcs = (k : ℕ) → k < length arcs → ((slice_index_or arcs k nowhere).from < n) × ((slice_index_or arcs k nowhere).to < n)
 
 -- an arc of the list from u to v
 pub record Hop (arcs : List Arc) (u v : ℕ) : Type 0 where
   pub place : ℕ
   pub there : place < length arcs
-  pub leaves : (get_or arcs place nowhere).from ≡ u
-  pub enters : (get_or arcs place nowhere).to ≡ v
+  pub leaves : (slice_index_or arcs place nowhere).from ≡ u
+  pub enters : (slice_index_or arcs place nowhere).to ≡ v
 
 -- one or more arcs in a row
 pub data Walk (arcs : List Arc) : ℕ → ℕ → Type 0 where

@@ -50,8 +50,8 @@ fn tally(arcs: &[Arc], counts: &mut [u16])
 
 // Each gate but the host with the count 0 is ready.
 fn seed(counts: &[u16], ready: &mut Ring<'_, u8>)
-    requires counts_len_bound { (length counts.now ≤ 128) × (0 < length counts.now) }
-    requires counts_len_bound_2 { (length counts.now ≤ room ready.old) × (held ready.old ≡ []) }
+    requires sizes { (length counts.now ≤ 128) × (0 < length counts.now) }
+    requires empty_with_room { (length counts.now ≤ room ready.old) × (held ready.old ≡ []) }
     ensures room { room ready.new ≡ room ready.old }
     ensures seeded { Seeded counts.now (length counts.now) (held ready.new) }
 {
@@ -64,7 +64,7 @@ fn seed(counts: &[u16], ready: &mut Ring<'_, u8>)
 
 // Lets no gate that an arc from the gate enters start before the time.
 fn raise(arcs: &[Arc], fanout: &Fanout, gate: u8, time: u32, times: &mut [u32])
-    requires gate_bound { (gate < 128) × (Within (length times.old) arcs.now) × (length arcs.now ≤ 512) }
+    requires in_bounds { (gate < 128) × (Within (length times.old) arcs.now) × (length arcs.now ≤ 512) }
     requires grouped { Grouped arcs.now (length arcs.now) fanout.now.last fanout.now.earlier }
     ensures { Raised arcs.now gate time times.old times.new }
 {
@@ -78,9 +78,9 @@ fn raise(arcs: &[Arc], fanout: &Fanout, gate: u8, time: u32, times: &mut [u32])
 
 // Takes the arcs that leave the gate off the counts; a gate whose count falls to 0 is ready.
 fn lower(arcs: &[Arc], fanout: &Fanout, gate: u8, counts: &mut [u16], ready: &mut Ring<'_, u8>)
-    requires gate_bound { (gate < 128) × (Within (length counts.old) arcs.now) × (length arcs.now ≤ 512) }
+    requires in_bounds { (gate < 128) × (Within (length counts.old) arcs.now) × (length arcs.now ≤ 512) }
     requires grouped { Grouped arcs.now (length arcs.now) fanout.now.last fanout.now.earlier }
-    requires counts_len_bound { length counts.old ≤ room ready.old }
+    requires enough_room { length counts.old ≤ room ready.old }
     requires lowerable { Lowerable arcs.now (length counts.old) gate counts.old (held ready.old) }
     ensures room { room ready.new ≡ room ready.old }
     ensures lowered { Lowered arcs.now (length counts.old) gate counts.old counts.new (held ready.old) (held ready.new) }
@@ -105,10 +105,10 @@ fn settle(
     times: &mut [u32],
     ready: &mut Ring<'_, u8>,
 ) -> Option<u32>
-    requires delays_nonzero { (0 < length delays.now) × (length delays.now ≤ 128) × (length arcs.now ≤ 512) × (Within (length delays.now) arcs.now) }
-    requires counts_len { (length counts.old ≡ length delays.now) × ((k : ℕ) → slice_index counts.old k ≡ 0) }
-    requires times_len { (length times.old ≡ length delays.now) × ((k : ℕ) → slice_index times.old k ≡ 0) }
-    requires delays_len_bound { (length delays.now ≤ room ready.old) × (held ready.old ≡ []) }
+    requires in_bounds { (0 < length delays.now) × (length delays.now ≤ 128) × (length arcs.now ≤ 512) × (Within (length delays.now) arcs.now) }
+    requires counts_clear { (length counts.old ≡ length delays.now) × ((k : ℕ) → slice_index counts.old k ≡ 0) }
+    requires times_clear { (length times.old ≡ length delays.now) × ((k : ℕ) → slice_index times.old k ≡ 0) }
+    requires empty_with_room { (length delays.now ≤ room ready.old) × (held ready.old ≡ []) }
     ensures { Timed delays.now arcs.now result }
 {
     let fanout = grouped(arcs);
@@ -170,7 +170,7 @@ fn reach(arcs: &[Arc], gate: u8, marks: &mut [bool])
 // Whether a walk along arcs leads from the gate back to it.
 fn on_loop(arcs: &[Arc], gate: u8, marks: &mut [bool]) -> bool
     requires within { Within (length marks.old) arcs.now }
-    requires gate_in_bounds { gate < length marks.old }
+    requires gate_inside { gate < length marks.old }
     ensures { Loops arcs.now gate result }
 {
     reach(arcs, gate, marks);
@@ -180,7 +180,7 @@ fn on_loop(arcs: &[Arc], gate: u8, marks: &mut [bool]) -> bool
 // The least gate but the host that no walk from the host leads to.
 pub fn unreached(arcs: &[Arc], marks: &mut [bool]) -> Option<u32>
     requires ended { Ended (length marks.old) arcs.now }
-    requires marks_len_bound { length marks.old ≤ 128 }
+    requires few_marks { length marks.old ≤ 128 }
     ensures { Spanned arcs.now (length marks.old) result }
 {
     reach(arcs, 0, marks);
@@ -195,8 +195,8 @@ pub fn unreached(arcs: &[Arc], marks: &mut [bool]) -> Option<u32>
 // The least gate on a loop.
 fn lowest(arcs: &[Arc], marks: &mut [bool]) -> u32
     requires within { Within (length marks.old) arcs.now }
-    requires marks_len_bound { length marks.old ≤ 128 }
-    requires by_index { (v : ℕ) × Walk arcs.now v v }
+    requires few_marks { length marks.old ≤ 128 }
+    requires some_loop { (v : ℕ) × Walk arcs.now v v }
     ensures { Lowest arcs.now result }
 {
     for g in 1..marks.len() {
@@ -209,7 +209,7 @@ fn lowest(arcs: &[Arc], marks: &mut [bool]) -> u32
 
 // The greatest delay of a run along arcs, or the least gate on a loop.
 pub fn period(delays: &[u16], arcs: &[Arc]) -> Result<u32, u32>
-    requires delays_nonzero { (0 < length delays.now) × (length delays.now ≤ 128) × (length arcs.now ≤ 512) }
+    requires sizes { (0 < length delays.now) × (length delays.now ≤ 128) × (length arcs.now ≤ 512) }
     requires within { Within (length delays.now) arcs.now }
     ensures { Measured delays.now arcs.now result }
 {

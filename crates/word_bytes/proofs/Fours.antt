@@ -1,6 +1,6 @@
 -- Four bytes a word.
-use Rattle.std.proofs.Common.{◌≡◌, ℕ, zero, suc, ◌+◌, ◌*◌, ◌/◌, ◌%◌, ◌^◌, ◌<◌, ◌≤◌, List, [], ◌∷◌, ◌++◌, length, get_or, take, drop, set, Some, None, sym, refl, ap, ◌∙◌, subst, inl, inr, arith}
-use Rattle.std.specs.List.{flat_map, AllByRecursion as All, slice_get}
+use Rattle.std.proofs.Common.{◌≡◌, ℕ, zero, suc, ◌+◌, ◌*◌, ◌/◌, ◌%◌, ◌^◌, ◌<◌, ◌≤◌, List, [], ◌∷◌, ◌++◌, length, get_or, take, drop, set, Some, None, refl, ap, ◌∙◌, inl, inr, arith}
+use Rattle.std.specs.List.{flat_map, AllByRecursion, slice_get}
 use Rattle.std.proofs.lemmas.List.{take_more}
 use Rattle.std.proofs.lemmas.Option.{slice_get-get_or, slice_get_past}
 use Rattle.std.proofs.lemmas.Bool.{cases_lt}
@@ -57,11 +57,11 @@ written (suc i) (a ∷ b ∷ c ∷ d ∷ rest) w h l =
     rw (four_more i 4, e) (ap (λ (xs : List ℕ). word_of a b c d ∷ xs) (written i rest w h (omega arith)))
 
 -- the bytes of words read back
-pub words_back : (ws : List ℕ) → All (λ w. w < 2 ^ 32) ws → words_of (flat_map bytes_of ws) ≡ ws
+pub words_back : (ws : List ℕ) → AllByRecursion (λ w. w < 2 ^ 32) ws → words_of (flat_map bytes_of ws) ≡ ws
 words_back [] h = refl
 words_back (w ∷ ws) h = rw (word_back w h.0, words_back ws h.1)
 
-pub all_bytes_back : (bs : List ℕ) → All (λ b. b < 0x100) bs → length bs % 4 ≡ 0 → flat_map bytes_of (words_of bs) ≡ bs
+pub all_bytes_back : (bs : List ℕ) → AllByRecursion (λ b. b < 0x100) bs → length bs % 4 ≡ 0 → flat_map bytes_of (words_of bs) ≡ bs
 all_bytes_back [] h e = refl
 all_bytes_back (a ∷ []) h e = absurd (omega arith)
 all_bytes_back (a ∷ b ∷ []) h e = absurd (omega arith)

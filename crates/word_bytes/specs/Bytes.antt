@@ -1,6 +1,6 @@
 -- Words as bytes.
 use Rattle.std.specs.Prelude.{◌≡◌, ℕ, ◌+◌, ◌*◌, ◌/◌, ◌%◌, ◌^◌, ◌<◌, ◌≤◌, Bool, true, false, List, [], ◌∷◌, ◌++◌, length, take, drop, slice_set}
-use Rattle.std.specs.List.{flat_map, AllByRecursion as All}
+use Rattle.std.specs.List.{flat_map, AllByRecursion}
 
 -- four bytes make a word, the lowest first
 abbrev pub word_of : ℕ → ℕ → ℕ → ℕ → ℕ
@@ -37,5 +37,5 @@ pub record Puts (old : List ℕ) (i w : ℕ) (r : Bool) (new : List ℕ) : Type 
 
 -- the bytes of words read as those words, and whole words give their bytes
 pub record ReadBack : Type 0 where
-  pub words : (ws : List ℕ) → All (λ w. w < 2 ^ 32) ws → words_of (flat_map bytes_of ws) ≡ ws
-  pub bytes : (bs : List ℕ) → All (λ b. b < 0x100) bs → length bs % 4 ≡ 0 → flat_map bytes_of (words_of bs) ≡ bs
+  pub words : (ws : List ℕ) → AllByRecursion (λ w. w < 2 ^ 32) ws → words_of (flat_map bytes_of ws) ≡ ws
+  pub bytes : (bs : List ℕ) → AllByRecursion (λ b. b < 0x100) bs → length bs % 4 ≡ 0 → flat_map bytes_of (words_of bs) ≡ bs

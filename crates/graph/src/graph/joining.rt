@@ -39,7 +39,7 @@ fn unmarked() -> [bool; 128]
 
 // Whether wires join every gate to the host.
 fn spans(gates: usize, wires: &[Ends]) -> Option<u32>
-    requires gates_nonzero { (0 < gates) × (gates ≤ 128) × (length wires.now ≤ 512) }
+    requires sizes { (0 < gates) × (gates ≤ 128) × (length wires.now ≤ 512) }
     requires inside { Inside wires.now (length wires.now) gates }
     ensures { Spanned (both_ways wires.now) gates result }
 {

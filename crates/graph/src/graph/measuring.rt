@@ -9,8 +9,8 @@ use timing::{Arc, period};
 
 // Writes the wires without registers between gates that are not the host; how many there are.
 fn gather(wires: &[Ends], registers: &[u8], arcs: &mut [Arc]) -> usize
-    requires registers_len { length registers.now ≡ length wires.now }
-    requires wires_in_bounds { length wires.now ≤ length arcs.old }
+    requires paired { length registers.now ≡ length wires.now }
+    requires room { length wires.now ≤ length arcs.old }
     ensures { Gathered wires.now registers.now (length wires.now) arcs.new result }
 {
     let mut n = 0;
@@ -29,7 +29,7 @@ fn gather(wires: &[Ends], registers: &[u8], arcs: &mut [Arc]) -> usize
 
 // The period of the circuit that the rows hold.
 pub fn measure_rows(delays: &[u16], wires: &[Ends], registers: &[u8]) -> Result<u32, Refusal>
-    requires delays_nonzero { (0 < length delays.now) × (length delays.now ≤ 128) × (length wires.now ≤ 512) × (length registers.now ≡ length wires.now) }
+    requires sizes { (0 < length delays.now) × (length delays.now ≤ 128) × (length wires.now ≤ 512) × (length registers.now ≡ length wires.now) }
     requires inside { Inside wires.now (length wires.now) (length delays.now) }
     ensures { Measured (circuit_of delays.now wires.now registers.now) result }
 {

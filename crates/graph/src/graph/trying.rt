@@ -37,7 +37,7 @@ fn measure_tables(
     registers: &[u8; 512],
     wired: usize,
 ) -> Result<u32, Refusal>
-    requires gates_nonzero { (0 < gates) × (gates ≤ 128) × (wired ≤ 512) }
+    requires sizes { (0 < gates) × (gates ≤ 128) × (wired ≤ 512) }
     requires inside { Inside wires.now wired gates }
     ensures { Measured (circuit_of (take gates delays.now) (take wired wires.now) (take wired registers.now)) result }
 {
@@ -54,7 +54,7 @@ fn trial_in(
     wire: usize,
     n: u8,
 ) -> Result<u32, Refusal>
-    requires gates_nonzero { (0 < gates) × (gates ≤ 128) × (wired ≤ 512) × (wire < wired) }
+    requires sizes { (0 < gates) × (gates ≤ 128) × (wired ≤ 512) × (wire < wired) }
     requires inside { Inside wires.now wired gates }
     ensures answer { Measured (circuit_of (take gates delays.now) (take wired wires.now) (take wired (slice_set registers.old wire n))) result }
     ensures same { registers.new ≡ registers.old }

@@ -12,16 +12,16 @@ use Rattle.timing.proofs.lower.Goals.{then-counts-to-eq0, else-counts-to-eq0}
 
 pub loop-at-init : goal.loop-at-init
 loop-at-init c =
-    let b = groups.begin c.args.arcs.now c.args.gate _ (c.requires.1.ends c.args.gate c.requires.0.0) in
-    (refl, b.0, lemma.at_first c.args.arcs.now _ _ _ _ _ b.1 c.requires.3)
+    let b = groups.begin c.args.arcs.now c.args.gate _ (c.requires.grouped.ends c.args.gate c.requires.in_bounds.0) in
+    (refl, b.0, lemma.at_first c.args.arcs.now _ _ _ _ _ b.1 c.requires.lowerable)
 
 pub loop-at-smaller : goal.loop-at-smaller
-loop-at-smaller c = groups.goes_down c.args.arcs.now _ c.args.gate c.in-Some.i _ _ c.requires.0.1 c.in-Some.is c.loop-at.invariant.1 c.requires.1.steps
+loop-at-smaller c = groups.goes_down c.args.arcs.now _ c.args.gate c.in-Some.i _ _ c.requires.in_bounds.1 c.in-Some.is c.loop-at.invariant.1 c.requires.grouped.steps
 
-pub overflow-sub-counts : goal.overflow-sub-counts
-overflow-sub-counts c =
-    let one = groups.one_more c.args.arcs.now _ c.args.gate c.in-Some.i _ c.args.fanout.now.earlier c.requires.0.1 c.in-Some.is c.loop-at.invariant.1 c.requires.1.steps in
-    lemma.counted c.args.arcs.now _ _ _ c.args.gate _ _ _ c.requires.3 one c.loop-at.counts _ c.loop-at.invariant.2
+pub overflow_sub-counts : goal.overflow_sub-counts
+overflow_sub-counts c =
+    let one = groups.one_more c.args.arcs.now _ c.args.gate c.in-Some.i _ c.args.fanout.now.earlier c.requires.in_bounds.1 c.in-Some.is c.loop-at.invariant.1 c.requires.grouped.steps in
+    lemma.counted c.args.arcs.now _ _ _ c.args.gate _ _ _ c.requires.lowerable one c.loop-at.counts _ c.loop-at.invariant.2
 
 pub loop-at-preserved : goal.loop-at-preserved
 loop-at-preserved c =
@@ -38,24 +38,24 @@ loop-at-preserved c =
     let inv = c.loop-at.invariant in
     let long : length old ≤ length new = omega arith in
     let then = seen arcs (get_or earlier i None) in
-    let one = groups.one_more arcs (length old) u i c.loop-at.at earlier c.requires.0.1 c.in-Some.is inv.1 c.requires.1.steps in
-    let next = groups.leaves_next arcs (length old) u i c.loop-at.at earlier c.requires.0.1 c.in-Some.is inv.1 c.requires.1.steps in
+    let one = groups.one_more arcs (length old) u i c.loop-at.at earlier c.requires.in_bounds.1 c.in-Some.is inv.1 c.requires.grouped.steps in
+    let next = groups.leaves_next arcs (length old) u i c.loop-at.at earlier c.requires.in_bounds.1 c.in-Some.is inv.1 c.requires.grouped.steps in
     let P : Ring ℕ → Type 0 = λ r. (room r ≡ room first) × Leaves arcs u (get_or earlier i None) × Lowered then (length old) u old lowered (held first) (held r) in
     elim c.if-counts-to-eq0.branch [
       | then-counts-to-eq0 w ↦
-          let fits : length (held ready) < room ready = let a = lemma.room_for arcs _ then _ u goal old _ c.requires.3 one new (held ready) inv.2 long in let b = inv.0 in let d = c.requires.2 in omega arith in
+          let fits : length (held ready) < room ready = let a = lemma.room_for arcs _ then _ u goal old _ c.requires.lowerable one new (held ready) inv.2 long in let b = inv.0 in let d = c.requires.enough_room in omega arith in
           let last = w.push.new.self in
           let p = pushed ready last goal w.push.result w.push.ensures fits in
-          let l = lemma.ready_now arcs _ then _ u goal old _ c.requires.3 one new (held ready) inv.2 long w.if-counts-to-eq0.true in
+          let l = lemma.ready_now arcs _ then _ u goal old _ c.requires.lowerable one new (held ready) inv.2 long w.if-counts-to-eq0.true in
           let m : Lowered then (length old) u old lowered (held first) (held last) = subst (λ (xs : List ℕ). Lowered then (length old) u old lowered (held first) xs) (sym p.0) l in
           subst P (sym w.ready-is) (p.1 ∙ inv.0, next, m)
       | else-counts-to-eq0 w ↦
-          let l = lemma.still arcs _ then _ u goal old _ c.requires.3 one new (held ready) inv.2 long w.if-counts-to-eq0.false in
+          let l = lemma.still arcs _ then _ u goal old _ c.requires.lowerable one new (held ready) inv.2 long w.if-counts-to-eq0.false in
           subst P (sym w.ready-is) (inv.0, next, l)
     ]
 
 pub returns : goal.returns
 returns c = record {
   room = c.loop-at.invariant.0;
-  lowered = subst (λ (o : Option ℕ). Lowered (seen c.args.arcs.now o) (length c.args.counts.now) c.args.gate c.args.counts.now c.loop-at.counts (held c.args.ready.now) (held c.loop-at.ready)) c.in-default.is c.loop-at.invariant.2;
+  lowered = subst (λ (o : Option ℕ). Lowered (seen c.args.arcs.now o) (length c.args.counts.now) c.args.gate c.args.counts.now c.loop-at.counts (held c.args.ready.now) (held c.loop-at.ready)) c.in_default.is c.loop-at.invariant.2;
 }

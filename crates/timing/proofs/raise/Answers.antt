@@ -7,11 +7,11 @@ use Rattle.timing.proofs.raise.Goals as goal
 
 pub loop-at-init : goal.loop-at-init
 loop-at-init c =
-    let b = groups.begin c.args.arcs.now c.args.gate _ (c.requires.1.ends c.args.gate c.requires.0.0) in
+    let b = groups.begin c.args.arcs.now c.args.gate _ (c.requires.grouped.ends c.args.gate c.requires.in_bounds.0) in
     (b.0, at_rest _ c.args.gate c.args.time c.args.times.now b.1)
 
 pub loop-at-smaller : goal.loop-at-smaller
-loop-at-smaller c = groups.goes_down c.args.arcs.now _ c.args.gate c.in-Some.i _ _ c.requires.0.1 c.in-Some.is c.loop-at.invariant.0 c.requires.1.steps
+loop-at-smaller c = groups.goes_down c.args.arcs.now _ c.args.gate c.in-Some.i _ _ c.requires.in_bounds.1 c.in-Some.is c.loop-at.invariant.0 c.requires.grouped.steps
 
 pub loop-at-preserved : goal.loop-at-preserved
 loop-at-preserved c =
@@ -21,11 +21,11 @@ loop-at-preserved c =
     let earlier = c.args.fanout.now.earlier in
     let times = c.loop-at.times in
     let long : length c.args.times.now ≤ length times = omega arith in
-    let one = groups.one_more arcs _ u i c.loop-at.at earlier c.requires.0.1 c.in-Some.is c.loop-at.invariant.0 c.requires.1.steps in
+    let one = groups.one_more arcs _ u i c.loop-at.at earlier c.requires.in_bounds.1 c.in-Some.is c.loop-at.invariant.0 c.requires.grouped.steps in
     let more = raised_more arcs _ _ _ u c.args.time (get_or arcs i nowhere).to c.args.times.now times long one c.loop-at.invariant.1 in (
-      groups.leaves_next arcs _ u i c.loop-at.at earlier c.requires.0.1 c.in-Some.is c.loop-at.invariant.0 c.requires.1.steps,
+      groups.leaves_next arcs _ u i c.loop-at.at earlier c.requires.in_bounds.1 c.in-Some.is c.loop-at.invariant.0 c.requires.grouped.steps,
       subst (λ (t : ℕ). Raised (groups.seen arcs (get_or earlier i None)) u c.args.time c.args.times.now (set times (get_or arcs i nowhere).to t)) (sym c.max.ensures) more,
     )
 
 pub returns : goal.returns
-returns c = subst (λ o. Raised (groups.seen c.args.arcs.now o) c.args.gate c.args.time c.args.times.now c.loop-at.times) c.in-default.is c.loop-at.invariant.1
+returns c = subst (λ o. Raised (groups.seen c.args.arcs.now o) c.args.gate c.args.time c.args.times.now c.loop-at.times) c.in_default.is c.loop-at.invariant.1

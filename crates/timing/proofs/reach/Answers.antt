@@ -4,7 +4,7 @@ use Rattle.timing.proofs.Marking as lemma
 use Rattle.timing.proofs.reach.Goals as goal
 
 pub loop-init : goal.loop-init
-loop-init c = lemma.led_first c.args.arcs.now c.args.gate c.mark-next.new.marks c.mark-next.ensures
+loop-init c = lemma.led_first c.args.arcs.now c.args.gate c.mark_next.new.marks c.mark_next.ensures
 
 pub loop-preserved : goal.loop-preserved
 loop-preserved c = lemma.led_more c.args.arcs.now c.args.gate _ c.loop.marks c.spread.new.marks c.spread.result c.loop.invariant c.spread.ensures

@@ -8,7 +8,7 @@ use Rattle.timing.proofs.seed.Goals as goal
 use Rattle.timing.proofs.seed.Goals.{then-counts-g-eq0, else-counts-g-eq0}
 
 pub loop-g-init : goal.loop-g-init
-loop-g-init c = (refl, lemma.seeded_none c.args.counts.now (held c.args.ready.now) c.requires.1.1)
+loop-g-init c = (refl, lemma.seeded_none c.args.counts.now (held c.args.ready.now) c.requires.empty_with_room.1)
 
 pub loop-g-preserved : goal.loop-g-preserved
 loop-g-preserved c =
@@ -21,7 +21,7 @@ loop-g-preserved c =
     elim c.if-counts-g-eq0.branch [
       | then-counts-g-eq0 w ↦
           let last = w.push.new.self in
-          let fits : length (held old) < room old = let a = lemma.seeded_room counts g (held old) inv.1 in let b = inv.0 in let d = c.requires.1.0 in omega arith in
+          let fits : length (held old) < room old = let a = lemma.seeded_room counts g (held old) inv.1 in let b = inv.0 in let d = c.requires.empty_with_room.0 in omega arith in
           let p = pushed old last g w.push.result w.push.ensures fits in
           let s = lemma.seeded_ready counts g (held old) inv.1 (omega arith) w.if-counts-g-eq0.true in
           let m : Seeded counts (g + 1) (held last) = subst (λ (xs : List ℕ). Seeded counts (g + 1) xs) (sym p.0) s in
@@ -31,7 +31,7 @@ loop-g-preserved c =
 
 pub returns : goal.returns
 returns c =
-    let e : c.loop-g.g ≡ length c.args.counts.now = let a = c.requires.0.1 in omega arith in
+    let e : c.loop-g.g ≡ length c.args.counts.now = let a = c.requires.sizes.1 in omega arith in
     record {
       room = c.loop-g.invariant.0;
       seeded = subst (λ (m : ℕ). Seeded c.args.counts.now m (held c.loop-g.ready)) e c.loop-g.invariant.1;

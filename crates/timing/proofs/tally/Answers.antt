@@ -5,8 +5,8 @@ use Rattle.std.proofs.lemmas.Bool.{cases_eq, eq-eqb, ne_eqb}
 use Rattle.timing.specs.Arcs.{nowhere, into}
 use Rattle.timing.proofs.tally.Goals as goal
 
-pub overflow-add-counts : goal.overflow-add-counts
-overflow-add-counts c =
+pub overflow_add-counts : goal.overflow_add-counts
+overflow_add-counts c =
     let arcs = c.args.arcs.now in
     let to = (get_or arcs c.loop-a.a-index nowhere).to in
     let a = c.loop-a.invariant to in

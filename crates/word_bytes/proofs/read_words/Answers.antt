@@ -4,8 +4,8 @@ use Rattle.word_bytes.specs.Bytes.{words_of}
 use Rattle.word_bytes.proofs.Fours as lemma
 use Rattle.word_bytes.proofs.read_words.Goals as goal
 
-pub overflow-add-i : goal.overflow-add-i
-overflow-add-i c =
+pub overflow_add-i : goal.overflow_add-i
+overflow_add-i c =
     let h = (lemma.one_more (words_of c.args.bytes.now) c.loop-word.i c.in-Some.word c.in-Some.ensures).0 in
     let e = lemma.words_length c.args.bytes.now in
     search rules

@@ -19,7 +19,7 @@ loop-i-preserved c =
       | then-e+then-registers-i-eq0+then-e-ne0+then-e-ne0-2 w ↦
           let a : Arc = record { from = (get_or es i nowhere).from; to = (get_or es i nowhere).to } in
           let free : Free es rs i = record { lives = w.if-e.true; empty = w.if-registers-i-eq0.true; leaves = (let x = w.if-e-ne0.true in omega arith); enters = (let x = w.if-e-ne0-2.true in omega arith) } in
-          let room : n < length found = let x = old.few in let y = c.requires.1 in omega arith in
+          let room : n < length found = let x = old.few in let y = c.requires.room in omega arith in
           let g = lemma.one_more es rs i found n old free a (record { leaves = refl; enters = refl }) room in
           subst (λ (m : ℕ). Gathered es rs (i + 1) c.if-e.arcs m) (sym w.n-is) (subst (λ (xs : List Arc). Gathered es rs (i + 1) xs (n + 1)) (sym w.arcs-is) g)
       | else-e w ↦

@@ -5,10 +5,10 @@ use Rattle.graph.proofs.graph.trying.measure_tables.Goals as goal
 pub measure-rows-requires : goal.measure-rows-requires
 measure-rows-requires c =
     let a = c.args in
-    let y = c.requires.0.0 in
-    let x = c.requires.0.1 in
-    let z = c.requires.0.2 in
+    let y = c.requires.sizes.0 in
+    let x = c.requires.sizes.1 in
+    let z = c.requires.sizes.2 in
     let e : length (take a.gates a.delays.now) ≡ a.gates = omega arith in
     let f : length (take a.wired a.wires.now) ≡ a.wired = omega arith in
     let g : length (take a.wired a.registers.now) ≡ a.wired = omega arith in
-    ((omega arith, omega arith, omega arith, g ∙ sym f), inside_rows a.wires.now a.wired a.gates (length (take a.gates a.delays.now)) f e c.requires.1)
+    ((omega arith, omega arith, omega arith, g ∙ sym f), inside_rows a.wires.now a.wired a.gates (length (take a.gates a.delays.now)) f e c.requires.inside)

@@ -1,4 +1,4 @@
-use Rattle.std.proofs.Common.{◌≡◌, ◌+◌, ◌<◌, length, set, sym, refl, ap, ◌∙◌, arith, length-set}
+use Rattle.std.proofs.Common.{◌+◌, ◌<◌, length, set, refl, ap, ◌∙◌, arith, length-set}
 use Rattle.ring.specs.Turned.{ringed}
 use Rattle.ring.proofs.Rings.{length-ringed, ringed-push}
 use Rattle.ring.proofs.ring.Ring.push.Goals as goal
