@@ -1,6 +1,6 @@
 -- What a file says, and which words say it.
 use Rattle.std.specs.Prelude.{◌≡◌, ℕ, ◌+◌, ◌<◌, ◌≤◌, List, [], ◌∷◌, ◌++◌, map, length, Some}
-use Rattle.std.specs.List.{AllByRecursion as All}
+use Rattle.std.specs.List.{AllByRecursion}
 use Rattle.model.specs.Circuit.{Circuit}
 use Rattle.words.specs.Layout.{gate_word, wire_word, fill_word, clock_word, end_word}
 pub use Rattle.model.specs.declared.Wire.{Wire}
@@ -28,9 +28,9 @@ pub record Joins (n : ℕ) (v : Wire) : Type 0 where
 -- What the calls for a gate, a wire and a clock take.
 pub record WithinLimits (n : Netlist) : Type 0 where
   pub few : length n.delays ≤ 127
-  pub short : All (λ d. d < 0x1_0000) n.delays
+  pub short : AllByRecursion (λ d. d < 0x1_0000) n.delays
   pub held : length n.wires ≤ 512
-  pub joins : All (Joins (length n.delays)) n.wires
+  pub joins : AllByRecursion (Joins (length n.delays)) n.wires
   pub ticks : 1 ≤ n.clock
   pub limit : n.clock < 0x100_0000
 

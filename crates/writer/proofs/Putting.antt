@@ -1,6 +1,6 @@
 -- Words put into a memory one after the other.
 use Rattle.std.proofs.Common.{◌≡◌, ℕ, zero, suc, ◌+◌, ◌*◌, ◌<◌, ◌≤◌, true, false, List, [], ◌∷◌, ◌++◌, map, length, get_or, take, drop, set, is_some, Some, None, Option, sym, refl, ap, ◌∙◌, subst, arith}
-use Rattle.std.specs.List.{AllByRecursion as All}
+use Rattle.std.specs.List.{AllByRecursion}
 use Rattle.std.proofs.lemmas.List.{append-nil, append_assoc, length-append, length-take-le, length_push, take-append-drop, take_more, take_all, drop_more, set_at, length-map, map_more}
 use Rattle.std.proofs.ByRecursion.{All-more}
 use Rattle.words.specs.Layout.{gate_word, wire_word, fill_word}
@@ -63,7 +63,7 @@ kept_below ws i =
     let g = length-append (kept (take i ws)) (kept (drop i ws)) in
     omega arith
 
-pub kept_all : (P : Wire → Type 0) (ws : List (Option Wire)) (i : ℕ) (v : Wire) → get_or ws i None ≡ Some v → All P (kept ws) → P v
+pub kept_all : (P : Wire → Type 0) (ws : List (Option Wire)) (i : ℕ) (v : Wire) → get_or ws i None ≡ Some v → AllByRecursion P (kept ws) → P v
 kept_all P [] i v e h = absurd (let z : ◌≡◌ {A = ℕ} 0 1 = cc in omega arith)
 kept_all P (None ∷ ws) zero v e h = absurd (let z : ◌≡◌ {A = ℕ} 0 1 = cc in omega arith)
 kept_all P (Some w ∷ ws) zero v e h = let q : w ≡ v = cc in subst P q h.0
@@ -91,7 +91,7 @@ counted_all ws i n h e = e ∙ ap (λ (x : List (Option Wire)). length (kept x))
 -- ---- gates
 pub record Gated (delays : List ℕ) (i : ℕ) (old out : List ℕ) : Type 0 where
   pub words : Puts old 0 (map gate_word (take i delays)) out
-  pub short : All (λ (d : ℕ). d < 0x1_0000) (take i delays)
+  pub short : AllByRecursion (λ (d : ℕ). d < 0x1_0000) (take i delays)
 
 pub gated_none : (delays old : List ℕ) → Gated delays 0 old old
 gated_none delays old = record { words = puts_none old 0; short = tt }
@@ -106,8 +106,8 @@ gated_more delays i old out w g h l s e = record {
   short = All-more (λ (d : ℕ). d < 0x1_0000) delays i 0 h g.short s;
 }
 
-pub gated_all : (delays : List ℕ) (i : ℕ) (old out : List ℕ) → Gated delays i old out → length delays ≤ i → Puts old 0 (map gate_word delays) out × All (λ (d : ℕ). d < 0x1_0000) delays
-gated_all delays i old out g h = (subst (λ (x : List ℕ). Puts old 0 (map gate_word x) out) (take_all i delays h) g.words, subst (All (λ (d : ℕ). d < 0x1_0000)) (take_all i delays h) g.short)
+pub gated_all : (delays : List ℕ) (i : ℕ) (old out : List ℕ) → Gated delays i old out → length delays ≤ i → Puts old 0 (map gate_word delays) out × AllByRecursion (λ (d : ℕ). d < 0x1_0000) delays
+gated_all delays i old out g h = (subst (λ (x : List ℕ). Puts old 0 (map gate_word x) out) (take_all i delays h) g.words, subst (AllByRecursion (λ (d : ℕ). d < 0x1_0000)) (take_all i delays h) g.short)
 
 -- ---- wires
 pub record Wired (wires : List (Option Wire)) (i : ℕ) (old : List ℕ) (start : ℕ) (out : List ℕ) (at : ℕ) : Type 0 where

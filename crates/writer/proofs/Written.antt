@@ -1,6 +1,6 @@
 -- A file that is put into a memory.
 use Rattle.std.proofs.Common.{◌≡◌, ℕ, ◌+◌, ◌*◌, ◌<◌, ◌≤◌, List, [], ◌∷◌, ◌++◌, map, length, take, drop, set, Some, None, Option, sym, refl, ap, ◌∙◌, subst, arith}
-use Rattle.std.specs.List.{AllByRecursion as All}
+use Rattle.std.specs.List.{AllByRecursion}
 use Rattle.std.proofs.lemmas.List.{append_assoc, length-append, length-map, length_push, take_at, drop_at, drop-drop}
 use Rattle.words.specs.Layout.{gate_word, clock_word, end_word}
 use Rattle.words.specs.Netlist.{Wire, Netlist, Joins, WithinLimits, Spells}
@@ -34,10 +34,10 @@ module _ (delays : List ℕ) (wires : List (Option Wire)) (clock : ℕ) (t : Tab
   abbrev netlist : Netlist
   netlist = record { delays = delays; wires = kept wires; clock = clock }
 
-  pub weak : All (Joins 127) (kept wires)
+  pub weak : AllByRecursion (Joins 127) (kept wires)
   weak = go (kept wires) t.joins
     where
-      go : (vs : List Wire) → All (Joins (length delays)) vs → All (Joins 127) vs
+      go : (vs : List Wire) → AllByRecursion (Joins (length delays)) vs → AllByRecursion (Joins 127) vs
       go [] h = tt
       go (v ∷ vs) h =
           let j = h.0 in
@@ -47,11 +47,11 @@ module _ (delays : List ℕ) (wires : List (Option Wire)) (clock : ℕ) (t : Tab
   pub small : length delays + 2 * length (kept wires) + 1 < 0x1000_0000
   small = let a = kept_few wires in let b = t.held in let c = t.few in omega arith
 
-  fits : All (λ (d : ℕ). d < 0x1_0000) delays → WithinLimits netlist
+  fits : AllByRecursion (λ (d : ℕ). d < 0x1_0000) delays → WithinLimits netlist
   fits s = record { few = t.few; short = s; held = let a = kept_few wires in let b = t.held in omega arith; joins = t.joins; ticks = t.ticks; limit = t.limit }
 
   pub put : (old one two : List ℕ) (n x y : ℕ) → length delays + 2 * length (kept wires) + 2 ≤ length old
-      → All (λ (d : ℕ). d < 0x1_0000) delays → Puts old 0 (map gate_word delays) one → Puts one (length delays) (body_of (kept wires)) two → n ≡ length delays + 2 * length (kept wires)
+      → AllByRecursion (λ (d : ℕ). d < 0x1_0000) delays → Puts old 0 (map gate_word delays) one → Puts one (length delays) (body_of (kept wires)) two → n ≡ length delays + 2 * length (kept wires)
       → x ≡ clock_word clock → y ≡ end_word (n + 1) → FileIn netlist old (n + 2) (set (set two n x) (n + 1) y)
   put old one two n x y room short p q e f g =
       let m = length-map delays gate_word in

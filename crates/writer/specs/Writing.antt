@@ -1,6 +1,6 @@
 -- What stands in a memory that a file is put into.
 use Rattle.std.specs.Prelude.{◌≡◌, ℕ, ◌+◌, ◌<◌, ◌≤◌, List, [], ◌∷◌, ◌++◌, map, length, take, drop, Option}
-use Rattle.std.specs.List.{AllByRecursion as All}
+use Rattle.std.specs.List.{AllByRecursion}
 use Rattle.model.specs.Circuit.{kept}
 use Rattle.words.specs.Layout.{gate_word, wire_word, fill_word, clock_word, end_word}
 use Rattle.words.specs.Netlist.{Wire, Netlist, Joins, Spells}
@@ -22,7 +22,7 @@ Puts old start xs out = out ≡ take start old ++ (xs ++ drop (start + length xs
 pub record Tabled (delays : List ℕ) (wires : List (Option Wire)) (clock : ℕ) : Type 0 where
   pub few : length delays ≤ 127
   pub held : length wires ≤ 512
-  pub joins : All (Joins (length delays)) (kept wires)
+  pub joins : AllByRecursion (Joins (length delays)) (kept wires)
   pub ticks : 1 ≤ clock
   pub limit : clock < 0x100_0000
 

@@ -2,7 +2,7 @@
 #![tactic(auto)]
 
 ghost use Rattle.std.specs.Prelude.{◌≡◌, ℕ, ◌+◌, ◌*◌, ◌<◌, ◌≤◌, map, length};
-ghost use Rattle.std.specs.List.{AllByRecursion as All};
+ghost use Rattle.std.specs.List.{AllByRecursion};
 ghost use Rattle.model.specs.Circuit.{kept};
 ghost use Rattle.words.specs.Layout.{gate_word};
 ghost use Rattle.words.specs.Netlist.{Joins};
@@ -14,7 +14,7 @@ use model::Wire;
 fn put_gates(delays: &[u16], out: &mut [u32])
     requires { length delays.now ≤ length out.old }
     ensures words { Puts out.old 0 (map gate_word delays.now) out.new }
-    ensures short { All (λ (d : ℕ). d < 0x1_0000) delays.now }
+    ensures short { AllByRecursion (λ (d : ℕ). d < 0x1_0000) delays.now }
 {
     for (i, delay) in delays.iter().enumerate() {
         out[i] = words::gate_word(*delay);
@@ -24,7 +24,7 @@ fn put_gates(delays: &[u16], out: &mut [u32])
 // Puts two words for each wire that is not dropped, and answers where they end.
 fn put_wires(wires: &[Option<Wire>], out: &mut [u32], start: usize) -> usize
     requires room { start + 2 * length (kept wires.now) ≤ length out.old }
-    requires joins { All (Joins 127) (kept wires.now) }
+    requires joins { AllByRecursion (Joins 127) (kept wires.now) }
     ensures words { Puts out.old start (body_of (kept wires.now)) out.new }
     ensures end { result ≡ start + 2 * length (kept wires.now) }
 {
