@@ -1,18 +1,17 @@
 -- In a file no word is wrong.
-use Rattle.std.proofs.Common.{◌≡◌, ℕ, zero, suc, ◌+◌, ◌*◌, ◌<◌, ◌≤◌, Bool, true, false, cond, not, eqb, ltb, leb, List, [], ◌∷◌, ◌++◌, map, length, get_or, take, Some, None, Option, sym, refl, ap, ◌∙◌, subst, arith}
-use Rattle.std.specs.List.{AllByRecursion as All}
+use Rattle.std.proofs.Common.{◌≡◌, ℕ, ◌+◌, ◌*◌, ◌<◌, ◌≤◌, true, false, not, eqb, ltb, leb, List, [], ◌∷◌, ◌++◌, map, length, Some, None, sym, refl, ap, ◌∙◌, subst, arith}
+use Rattle.std.specs.List.{AllByRecursion}
 use Rattle.std.proofs.lemmas.Bool.{lt-leb, le-ltb, eq-eqb, ne_eqb, cond-false}
 use Rattle.words.specs.declared.Kind.{Kind}
 use Rattle.words.specs.declared.Kind.TheVariants.{End, Gate, Wire, Fill, Clock}
-use Rattle.words.specs.Layout.{kind_of, stray, gate_word, wire_word, fill_word, clock_word, end_word, from_of, to_of, floor_of, ceiling_of, clock_of, count_of}
+use Rattle.words.specs.Layout.{gate_word, wire_word, fill_word, clock_word, end_word, from_of, to_of, floor_of, ceiling_of, clock_of, count_of}
 use Rattle.words.proofs.Both.{trips}
-use Rattle.refusals.specs.declared.Refusal.TheVariants.{Range, NoGate, Reversed, NotNext, StrayBit, BadEnd, AfterEnd, Full, WiresUsed}
-use Rattle.refusals.specs.declared.LoadRefusal.{LoadRefusal}
+use Rattle.refusals.specs.declared.Refusal.TheVariants.{Range, Reversed, BadEnd, Full, WiresUsed}
 use Rattle.refusals.specs.declared.LoadRefusal.TheVariants.{Call, Word}
-use Rattle.words.specs.Netlist.{Wire as Wired, Netlist, Joins, WithinLimits, WireWords, none, alone, filled, Spells, Begins, bare}
-use Rattle.file.specs.Faults.{Before, may_follow, is_end, called, wrong}
-use Rattle.file.specs.Stepping.{start, more, up_to}
-use Rattle.file.proofs.Rights.{Right, one, right_front}
+use Rattle.words.specs.Netlist.{Wire as Wired, Netlist, Joins, WireWords, none, alone, filled, Spells}
+use Rattle.file.specs.Faults.{Before, may_follow, is_end}
+use Rattle.file.specs.Stepping.{start}
+use Rattle.file.proofs.Rights.{Right, one}
 
 abbrev pub stand : Kind → ℕ → ℕ → ℕ → Before
 stand l g n m = record { last = l; gates = g; wires = n; words = m }
@@ -27,7 +26,7 @@ moved : (l : Kind) (g n m g' n' m' : ℕ) (rest : List ℕ) → Right (stand l g
 moved l g n m g' n' m' rest r p q s =
     subst (λ (x : ℕ). Right (stand l x n' m') rest) p (subst (λ (x : ℕ). Right (stand l g x m') rest) q (subst (λ (x : ℕ). Right (stand l g n x) rest) s r))
 
-gates_right : (ds : List ℕ) (g n m g' m' : ℕ) (rest : List ℕ) → All (λ d. d < 0x1_0000) ds → g' ≤ 127
+gates_right : (ds : List ℕ) (g n m g' m' : ℕ) (rest : List ℕ) → AllByRecursion (λ d. d < 0x1_0000) ds → g' ≤ 127
     → g' ≡ g + length ds → m' ≡ m + length ds → Right (stand Gate g' n m') rest → Right (stand Gate g n m) (map gate_word ds ++ rest)
 gates_right [] g n m g' m' rest h f d e r = moved Gate g' n m' g n m rest r (omega arith) refl (omega arith)
 gates_right (d ∷ ds) g n m g' m' rest h f a e r =
@@ -56,7 +55,7 @@ after_gate : Open Gate
 after_gate = record { wire = refl; clock = refl; going = refl }
 
 wires_right : {vs : List Wired} {body : List ℕ} → WireWords vs body → (l : Kind) (g n m n' m' : ℕ) (rest : List ℕ) → Open l → g ≤ 127 → n' ≤ 512
-    → All (Joins g) vs → n' ≡ n + length vs → m' ≡ m + length body
+    → AllByRecursion (Joins g) vs → n' ≡ n + length vs → m' ≡ m + length body
     → ((k : Kind) → Open k → Right (stand k g n' m') rest) → Right (stand l g n m) (body ++ rest)
 wires_right none l g n m n' m' rest o few room j d e r = moved l g n' m' g n m rest (r l o) refl (omega arith) (omega arith)
 wires_right (alone {from} {to} {vs} {ws} q) l g n m n' m' rest o few room j d e r =

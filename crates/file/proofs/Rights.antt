@@ -1,13 +1,10 @@
 -- Words of which none is wrong after those before it.
-use Rattle.std.proofs.Common.{◌≡◌, ℕ, zero, suc, ◌+◌, ◌<◌, ◌≤◌, Bool, true, false, cond, List, [], ◌∷◌, ◌++◌, length, get_or, take, Some, None, count_by, Option, sym, refl, ap, ◌∙◌, subst, add-one, arith}
+use Rattle.std.proofs.Common.{◌≡◌, ℕ, zero, suc, ◌+◌, ◌<◌, ◌≤◌, Bool, true, false, cond, List, [], ◌∷◌, ◌++◌, length, get_or, take, Some, None, count_by, Option, sym, refl, ap, ◌∙◌, subst, arith}
 use Rattle.std.proofs.lemmas.List.Sums.{sum_by-cons}
 use Rattle.words.specs.declared.Kind.{Kind}
-use Rattle.words.specs.declared.Kind.TheVariants.{Gate}
 use Rattle.words.specs.Layout.{kind_of, stray}
 use Rattle.words.specs.Trips.{Plain}
-use Rattle.refusals.specs.declared.Refusal.TheVariants.{Range, NoGate, Reversed, NotNext, StrayBit, BadEnd, AfterEnd, Full, WiresUsed}
 use Rattle.refusals.specs.declared.LoadRefusal.{LoadRefusal}
-use Rattle.refusals.specs.declared.LoadRefusal.TheVariants.{Call, Word}
 use Rattle.file.specs.Faults.{last_kind, is_gate, is_wire, Before, before, may_follow, is_end, called, wrong}
 use Rattle.file.specs.Stepping.{start, more, up_to}
 

@@ -1,20 +1,18 @@
 -- Right words are the front of a file.
-use Rattle.std.proofs.Common.{◌≡◌, ℕ, zero, suc, ◌+◌, ◌*◌, ◌<◌, ◌≤◌, Bool, true, false, cond, not, eqb, ltb, leb, List, [], ◌∷◌, ◌++◌, map, length, get_or, take, Some, None, Option, sym, refl, ap, ◌∙◌, subst, arith}
-use Rattle.std.specs.List.{AllByRecursion as All}
+use Rattle.std.proofs.Common.{◌≡◌, ℕ, ◌+◌, ◌<◌, ◌≤◌, Bool, true, false, cond, not, eqb, ltb, leb, List, [], ◌∷◌, ◌++◌, map, length, Some, None, Option, sym, refl, ap, ◌∙◌, subst, arith}
+use Rattle.std.specs.List.{AllByRecursion}
 use Rattle.std.proofs.lemmas.List.{append-nil, append_assoc, length-append, length-map, map_push, length_push}
 use Rattle.std.proofs.lemmas.Bool.{leb-false, ltb-false, eqb-false, eqb-true, false≢true, not-false}
 use Rattle.words.specs.declared.Kind.{Kind}
 use Rattle.words.specs.declared.Kind.TheVariants.{End, Gate, Wire, Fill, Clock, Cost, Label, Refused, Limited, Other}
-use Rattle.words.specs.Layout.{kind_of, stray, gate_word, wire_word, fill_word, clock_word, end_word, delay_of, from_of, to_of, price_of, registers_of, floor_of, ceiling_of, clock_of, count_of}
+use Rattle.words.specs.Layout.{kind_of, stray, gate_word, wire_word, fill_word, clock_word, delay_of, from_of, to_of, price_of, registers_of, floor_of, ceiling_of, clock_of, count_of}
 use Rattle.words.specs.Trips.{Plain}
 use Rattle.words.proofs.Both.{trips}
-use Rattle.refusals.specs.declared.Refusal.TheVariants.{Range, NoGate, Reversed, NotNext, StrayBit, BadEnd, AfterEnd, Full, WiresUsed}
 use Rattle.refusals.specs.declared.LoadRefusal.{LoadRefusal}
-use Rattle.refusals.specs.declared.LoadRefusal.TheVariants.{Call, Word}
-use Rattle.words.specs.Netlist.{Wire as Wired, Netlist, Joins, WithinLimits, WireWords, none, alone, filled, Spells, Begins, bare}
+use Rattle.words.specs.Netlist.{Wire as Wired, Netlist, Joins, WireWords, none, alone, filled, Spells, Begins, bare}
 use Rattle.file.specs.Faults.{Before, may_follow, is_end, called, wrong}
 use Rattle.file.specs.Stepping.{start, more, up_to}
-use Rattle.file.proofs.Rights.{reached, Right, peel, words_up_to}
+use Rattle.file.proofs.Rights.{reached, Right, peel}
 
 -- gate words for g gates, then the words of n wires
 pub record Row (f : List ℕ) (g n : ℕ) : Type 0 where
@@ -23,14 +21,14 @@ pub record Row (f : List ℕ) (g n : ℕ) : Type 0 where
   pub gated : length delays ≡ g
   pub wired : length wires ≡ n
   pub few : g ≤ 127
-  pub short : All (λ d. d < 0x1_0000) delays
+  pub short : AllByRecursion (λ d. d < 0x1_0000) delays
   pub held : n ≤ 512
-  pub joins : All (Joins g) wires
+  pub joins : AllByRecursion (Joins g) wires
   pub body : List ℕ
   pub spelled : WireWords wires body
   pub whole : f ≡ map gate_word delays ++ body
 
-all_push : {X : Type 0} (P : X → Type 0) (xs : List X) (x : X) → All P xs → P x → All P (xs ++ x ∷ [])
+all_push : {X : Type 0} (P : X → Type 0) (xs : List X) (x : X) → AllByRecursion P xs → P x → AllByRecursion P (xs ++ x ∷ [])
 all_push P [] x h p = (p, tt)
 all_push P (y ∷ xs) x h p = (h.0, all_push P xs x h.1 p)
 
@@ -145,7 +143,7 @@ ends f g n w l e = (
       few = subst (λ (x : ℕ). x ≤ 127) (sym l.row.gated) l.row.few;
       short = l.row.short;
       held = subst (λ (x : ℕ). x ≤ 512) (sym l.row.wired) l.row.held;
-      joins = subst (λ (x : ℕ). All (Joins x) l.row.wires) (sym l.row.gated) l.row.joins;
+      joins = subst (λ (x : ℕ). AllByRecursion (Joins x) l.row.wires) (sym l.row.gated) l.row.joins;
       ticks = l.ticks;
       limit = l.limit;
     };

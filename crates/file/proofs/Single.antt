@@ -1,7 +1,7 @@
 -- Words have one fault at most, and none if they are a file; and they are one file at most.
-use Rattle.std.proofs.Common.{◌≡◌, ℕ, zero, suc, ◌+◌, ◌*◌, ◌<◌, ◌≤◌, Bool, true, false, cond, not, ◌&&◌, eqb, ltb, leb, ◌⊎◌, ◌↔◌, List, [], ◌∷◌, ◌++◌, map, length, get_or, take, drop, Some, None, Option, sym, refl, ap, ◌∙◌, subst, inl, inr, arith}
-use Rattle.std.specs.List.{AllByRecursion as All}
-use Rattle.std.proofs.lemmas.List.{append-nil, append_assoc, take_all, length-take, length-take-le, take-take, get_or-take, length_push, length-append, length-map, take_at, get_or_at}
+use Rattle.std.proofs.Common.{◌≡◌, ℕ, ◌+◌, ◌<◌, ◌≤◌, Bool, true, false, cond, not, ◌&&◌, eqb, ltb, leb, ◌⊎◌, ◌↔◌, List, [], ◌∷◌, ◌++◌, map, length, get_or, take, Some, None, Option, sym, refl, ap, ◌∙◌, subst, inl, inr, arith}
+use Rattle.std.specs.List.{AllByRecursion}
+use Rattle.std.proofs.lemmas.List.{take_all, length-take, length-take-le, take-take, get_or-take, length_push, length-append, length-map, take_at, get_or_at}
 use Rattle.std.proofs.lemmas.Bool.{cases_order}
 use Rattle.words.proofs.Both.{trips}
 use Rattle.words.specs.declared.Kind.{Kind}
@@ -9,10 +9,10 @@ use Rattle.words.specs.Layout.{kind_of, stray, from_of, to_of, price_of, registe
 use Rattle.refusals.specs.declared.Refusal.TheVariants.{Range, NoGate, Reversed, NotNext, StrayBit, BadEnd, AfterEnd, Full, WiresUsed}
 use Rattle.refusals.specs.declared.LoadRefusal.{LoadRefusal}
 use Rattle.refusals.specs.declared.LoadRefusal.TheVariants.{Call, Word}
-use Rattle.words.specs.Netlist.{Wire, Netlist, Joins, WithinLimits, WireWords, none, alone, filled, Spells, Begins, bare}
+use Rattle.words.specs.Netlist.{Wire, Netlist, Joins, WireWords, none, alone, filled, Spells, Begins}
 use Rattle.refusals.specs.Refusals.{load_place_of}
 use Rattle.file.specs.Faults.{Before, before, is_gate, is_wire, is_fill, is_clock, is_end, may_follow, called, wrong, FaultAt, word, missing}
-use Rattle.file.specs.Stepping.{start, up_to}
+use Rattle.file.specs.Stepping.{start}
 use Rattle.file.specs.Theorems.{OneMeaning}
 use Rattle.file.proofs.Rights.{wrong_is, Right, right_front, right_at, right_more}
 use Rattle.file.proofs.Rows.{right_begins}
@@ -59,7 +59,7 @@ abbrev Past : List ℕ → Type 0
 Past [] = Unit {0}
 Past (w ∷ ws) = 0x2000_0000 ≤ w
 
-gates_same : (ds es : List ℕ) (r t : List ℕ) → All (λ d. d < 0x1_0000) ds → All (λ d. d < 0x1_0000) es → Past r → Past t → map gate_word ds ++ r ≡ map gate_word es ++ t → (ds ≡ es) × (r ≡ t)
+gates_same : (ds es : List ℕ) (r t : List ℕ) → AllByRecursion (λ d. d < 0x1_0000) ds → AllByRecursion (λ d. d < 0x1_0000) es → Past r → Past t → map gate_word ds ++ r ≡ map gate_word es ++ t → (ds ≡ es) × (r ≡ t)
 gates_same [] [] r t h k p q e = (refl, e)
 gates_same [] (x ∷ es) [] t h k p q e = absurd (let z : ◌≡◌ {A = ℕ} 0 1 = cc in omega arith)
 gates_same [] (x ∷ es) (w ∷ r) t h k p q e = absurd (let z : w ≡ gate_word x = cc in let y = k.0 in omega arith)
@@ -78,7 +78,7 @@ past_wires (alone q) c r = omega arith
 past_wires (filled q) c r = omega arith
 
 -- what a clock or a wire begins is no fill
-no_fill : (g : ℕ) → g ≤ 127 → {vs : List Wire} {xs : List ℕ} → WireWords vs xs → All (Joins g) vs → (c w : ℕ) (r t : List ℕ) → c < 0x100_0000
+no_fill : (g : ℕ) → g ≤ 127 → {vs : List Wire} {xs : List ℕ} → WireWords vs xs → AllByRecursion (Joins g) vs → (c w : ℕ) (r t : List ℕ) → c < 0x100_0000
     → 0x3000_0000 ≤ w → w < 0x4000_0000 → xs ++ clock_word c ∷ r ≡ w ∷ t → ⊥
 no_fill g f none j c w r t h k l e = let z : clock_word c ≡ w = cc in omega arith
 no_fill g f (alone {from} {to} q) j c w r t h k l e = let z : wire_word from to ≡ w = cc in let x = j.0.from in let y = j.0.to in omega arith
@@ -110,7 +110,7 @@ same_fill g v u j k p q e =
     same_fields v u p q b a f c
 
 module _ (g : ℕ) (few : g ≤ 127) (c d : ℕ) (hc : c < 0x100_0000) (hd : d < 0x100_0000) (r t : List ℕ) where
-  wires_same : {vs us : List Wire} {xs ys : List ℕ} → WireWords vs xs → WireWords us ys → All (Joins g) vs → All (Joins g) us → xs ++ clock_word c ∷ r ≡ ys ++ clock_word d ∷ t → (vs ≡ us) × (c ≡ d)
+  wires_same : {vs us : List Wire} {xs ys : List ℕ} → WireWords vs xs → WireWords us ys → AllByRecursion (Joins g) vs → AllByRecursion (Joins g) us → xs ++ clock_word c ∷ r ≡ ys ++ clock_word d ∷ t → (vs ≡ us) × (c ≡ d)
   wires_same none none j k e = (refl, let z : clock_word c ≡ clock_word d = cc in omega arith)
   wires_same none (alone {from} {to} q) j k e = absurd (let z : clock_word c ≡ wire_word from to = cc in let x = k.0.from in let y = k.0.to in omega arith)
   wires_same none (filled {v} q) j k e = absurd (let z : clock_word c ≡ wire_word v.from v.to = cc in let x = k.0.from in let y = k.0.to in omega arith)
@@ -150,7 +150,7 @@ one_reading ws s t p q =
     let n = length s.delays + length p.body + 1 in
     let m = length t.delays + length q.body + 1 in
     let a = gates_same s.delays t.delays _ _ p.fits.short q.fits.short (past_wires p.wires s.clock (end_word n ∷ [])) (past_wires q.wires t.clock (end_word m ∷ [])) (sym p.whole ∙ q.whole) in
-    let j = subst (λ (x : List ℕ). All (Joins (length x)) t.wires) (sym a.0) q.fits.joins in
+    let j = subst (λ (x : List ℕ). AllByRecursion (Joins (length x)) t.wires) (sym a.0) q.fits.joins in
     let b = wires_same (length s.delays) p.fits.few s.clock t.clock p.fits.limit q.fits.limit (end_word n ∷ []) (end_word m ∷ []) p.wires q.wires p.fits.joins j a.1 in
     ap (λ (x : List ℕ). record { delays = x; wires = s.wires; clock = s.clock }) a.0
     ∙ ap (λ (x : List Wire). record { delays = t.delays; wires = x; clock = s.clock }) b.0

@@ -1,17 +1,17 @@
 -- The turns of the loop over a file's words, and its ends.
-use Rattle.std.proofs.Common.{◌≡◌, ℕ, zero, suc, ◌+◌, ◌*◌, ◌<◌, ◌≤◌, Bool, true, false, cond, List, [], ◌∷◌, ◌++◌, map, length, get_or, take, Some, None, Ok, Err, sym, refl, ap, ◌∙◌, subst, arith}
-use Rattle.std.proofs.lemmas.List.{append-nil, append_assoc, take_more, take_all, length-take-le}
+use Rattle.std.proofs.Common.{◌≡◌, ℕ, ◌+◌, ◌<◌, ◌≤◌, Bool, true, false, List, [], ◌∷◌, ◌++◌, map, length, get_or, take, Ok, Err, sym, refl, ap, ◌∙◌, subst, arith}
+use Rattle.std.proofs.lemmas.List.{append_assoc, take_more, take_all, length-take-le}
 use Rattle.words.specs.declared.Kind.{Kind}
-use Rattle.words.specs.declared.Kind.TheVariants.{End, Gate, Wire, Fill, Clock}
+use Rattle.words.specs.declared.Kind.TheVariants.{End}
 use Rattle.words.specs.Layout.{kind_of, gate_word, clock_word, end_word}
 use Rattle.words.proofs.Both.{trips}
 use Rattle.refusals.specs.declared.Refusal.TheVariants.{BadEnd}
 use Rattle.refusals.specs.declared.LoadRefusal.{LoadRefusal}
-use Rattle.refusals.specs.declared.LoadRefusal.TheVariants.{Call, Word}
+use Rattle.refusals.specs.declared.LoadRefusal.TheVariants.{Call}
 use Rattle.file.specs.declared.machine.Seen.{Seen}
 use Rattle.file.specs.declared.machine.State.{State}
 use Rattle.file.specs.declared.machine.State.TheVariants.{Gates, Wires, Clock as Clocked, End as Ended}
-use Rattle.words.specs.Netlist.{Netlist, Spells, Begins}
+use Rattle.words.specs.Netlist.{Netlist, Spells}
 use Rattle.file.specs.Faults.{Before, wrong, FaultAt, word, missing}
 use Rattle.file.specs.Stepping.{start, more, up_to}
 use Rattle.file.specs.Stepping.{last_of, shown, SteppedAs}

@@ -5,7 +5,7 @@ use Rattle.words.specs.declared.Kind.TheVariants.{End, Gate, Wire, Fill, Clock}
 use Rattle.words.specs.Layout.{kind_of}
 use Rattle.refusals.specs.declared.Refusal.TheVariants.{AfterEnd, NotNext}
 use Rattle.refusals.specs.declared.LoadRefusal.{LoadRefusal}
-use Rattle.refusals.specs.declared.LoadRefusal.TheVariants.{Call, Word}
+use Rattle.refusals.specs.declared.LoadRefusal.TheVariants.{Call}
 use Rattle.file.specs.declared.machine.State.{State}
 use Rattle.file.specs.declared.machine.State.TheVariants.{Gates, Wires, Clock as Clocked, End as Ended}
 use Rattle.file.specs.declared.machine.Seen.{Seen}

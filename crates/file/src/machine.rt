@@ -64,7 +64,9 @@ fn refused(seen: Seen, kind: Kind, word: u32) -> Option<LoadRefusal>
 
 // One word more, or what is wrong with it.
 fn step(seen: Seen, word: u32) -> Result<Seen, LoadRefusal>
-    requires { (seen.words ≤ 1153) × (seen.gates ≤ seen.words) × (seen.wires ≤ seen.words) }
+    requires words { seen.words ≤ 1153 }
+    requires gates { seen.gates ≤ seen.words }
+    requires wires { seen.wires ≤ seen.words }
     ensures { Stepped seen word result }
 {
     let kind = words::kind_of(word);
