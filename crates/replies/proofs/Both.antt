@@ -1,13 +1,12 @@
 -- Making a reply's word and taking it apart.
-use Rattle.std.proofs.Common.{◌≡◌, ℕ, zero, suc, ◌+◌, ◌-◌, ◌*◌, ◌/◌, ◌%◌, ◌<◌, ◌≤◌, min, Bool, true, false, cond, eqb, ltb, leb, ◌⊎◌, ℤ, pos, negsuc, ◌≤ℤ◌, Some, None, Option, sym, refl, ap, ◌∙◌, subst, inl, inr, add_assoc, arith}
+use Rattle.std.proofs.Common.{◌≡◌, ℕ, zero, suc, ◌+◌, ◌-◌, ◌*◌, ◌/◌, ◌%◌, ◌<◌, ◌≤◌, ltb, ℤ, pos, negsuc, ◌≤ℤ◌, sym, refl, ap, ◌∙◌, subst, inl, inr, add_assoc, arith}
 use Rattle.std.proofs.lemmas.Int.{ints}
 use Rattle.std.proofs.lemmas.Bool.{lt-leb, leb-false, cond-true, cond-false, lt-ltb, le-ltb, cases_lt}
-use Rattle.words.specs.declared.Kind.{Kind}
 use Rattle.words.specs.declared.Kind.TheVariants.{Cost, Label, Refused, Limited}
 use Rattle.replies.specs.declared.LimitWord.{LimitWord}
 use Rattle.replies.specs.declared.LimitWord.TheVariants.{Floor, Ceiling, Clock as Clocked, Rule}
-use Rattle.words.specs.Layout.{kind_at, kind_of, limit_room, stray, stray_in, delay_of, from_of, to_of, price_of, registers_of, floor_of, ceiling_of, clock_of, count_of, gate_word, wire_word, fill_word, clock_word, end_word, Makes}
-use Rattle.replies.specs.Replies.{signed, complement, cost_of, gate_of, label_of, refusal_number_of, refusal_place_of, limit_at, limit_of, cost_word, label_word, refusal_word, limit_word, InFields}
+use Rattle.words.specs.Layout.{limit_room, from_of, to_of}
+use Rattle.replies.specs.Replies.{signed, complement, limit_at, limit_of, cost_word, label_word, refusal_word, limit_word, InFields}
 use Rattle.words.specs.Trips.{Plain}
 use Rattle.words.proofs.Both.{plain, top, low}
 use Rattle.replies.specs.Trips.{ReplyTrips}
@@ -35,20 +34,20 @@ complement-signed n h =
 limit_plain : (w which : ℕ) → w / 0x1000_0000 ≡ 8 → w % 0x1000_0000 / 0x400_0000 ≡ which → w % 0x1000_0000 % 0x400_0000 < limit_room which → Plain Limited w
 limit_plain w which e f h = plain Limited w 8 e refl (lt-leb _ _ (subst (λ (x : ℕ). w % 0x1000_0000 % 0x400_0000 < limit_room x) (sym f) h))
 
-limit_at : (l : LimitWord) (which : ℕ) → limit_word l / 0x400_0000 % 4 ≡ which → limit_at which (limit_word l) ≡ l → limit_of (limit_word l) ≡ l
-limit_at l which e f = ap (λ (x : ℕ). limit_at x (limit_word l)) e ∙ f
+limit_at_lem : (l : LimitWord) (which : ℕ) → limit_word l / 0x400_0000 % 4 ≡ which → limit_at which (limit_word l) ≡ l → limit_of (limit_word l) ≡ l
+limit_at_lem l which e f = ap (λ (x : ℕ). limit_at x (limit_word l)) e ∙ f
 
 limit_trip : (l : LimitWord) → InFields l → Plain Limited (limit_word l) × (limit_of (limit_word l) ≡ l)
 limit_trip (Floor n) h =
-    (limit_plain (limit_word (Floor n)) 0 (omega arith) (omega arith) (omega arith), limit_at (Floor n) 0 (omega arith) (ap Floor (omega arith)))
+    (limit_plain (limit_word (Floor n)) 0 (omega arith) (omega arith) (omega arith), limit_at_lem (Floor n) 0 (omega arith) (ap Floor (omega arith)))
 limit_trip (Ceiling n) h =
-    (limit_plain (limit_word (Ceiling n)) 1 (omega arith) (omega arith) (omega arith), limit_at (Ceiling n) 1 (omega arith) (ap Ceiling (omega arith)))
+    (limit_plain (limit_word (Ceiling n)) 1 (omega arith) (omega arith) (omega arith), limit_at_lem (Ceiling n) 1 (omega arith) (ap Ceiling (omega arith)))
 limit_trip (Clocked u v) h =
     let w = limit_word (Clocked u v) in
     let e : Clocked (from_of w) (to_of w) ≡ Clocked u v = let p : from_of w ≡ u = omega arith in let q : to_of w ≡ v = omega arith in cc in
-    (limit_plain w 2 (omega arith) (omega arith) (omega arith), limit_at (Clocked u v) 2 (omega arith) e)
+    (limit_plain w 2 (omega arith) (omega arith) (omega arith), limit_at_lem (Clocked u v) 2 (omega arith) e)
 limit_trip (Rule n) h =
-    (limit_plain (limit_word (Rule n)) 3 (omega arith) (omega arith) (omega arith), limit_at (Rule n) 3 (omega arith) (ap Rule (omega arith)))
+    (limit_plain (limit_word (Rule n)) 3 (omega arith) (omega arith) (omega arith), limit_at_lem (Rule n) 3 (omega arith) (ap Rule (omega arith)))
 
 two_gates : (w : ℕ) → from_of w * 0x80 + to_of w ≡ w % 0x4000
 two_gates w = let p : w / 0x80 / 0x80 ≡ w / 0x4000 = omega arith in omega arith

@@ -1,5 +1,5 @@
 -- The layout of a reply's words.
-use Rattle.std.specs.Prelude.{ℕ, ◌+◌, ◌-◌, ◌*◌, ◌/◌, ◌%◌, ◌<◌, Bool, true, false, cond, ℤ, pos, negsuc, ◌==◌, nat_lt}
+use Rattle.std.specs.Prelude.{ℕ, ◌+◌, ◌-◌, ◌*◌, ◌/◌, ◌%◌, ◌<◌, cond, ℤ, pos, negsuc, ◌==◌, nat_lt}
 use Rattle.replies.specs.declared.LimitWord.{LimitWord}
 use Rattle.replies.specs.declared.LimitWord.TheVariants.{Floor, Ceiling, Clock, Rule}
 use Rattle.words.specs.Layout.{from_of, to_of}

@@ -1,10 +1,10 @@
 -- Making a word and taking it apart.
-use Rattle.std.proofs.Common.{◌≡◌, ℕ, zero, suc, ◌+◌, ◌-◌, ◌*◌, ◌/◌, ◌%◌, ◌<◌, ◌≤◌, min, Bool, true, false, cond, eqb, ltb, leb, Some, None, Option, sym, refl, ap, ◌∙◌, subst, arith}
+use Rattle.std.proofs.Common.{◌≡◌, ℕ, ◌/◌, ◌%◌, min, false, Some, None, Option, sym, refl, ap, ◌∙◌, arith}
 use Rattle.std.proofs.lemmas.Bool.{lt-leb, leb-false}
 use Rattle.std.proofs.lemmas.Bool.Decides.{nat_tests}
 use Rattle.words.specs.declared.Kind.{Kind}
 use Rattle.words.specs.declared.Kind.TheVariants.{End, Gate, Wire, Fill, Clock, Cost, Label, Refused, Limited, Other}
-use Rattle.words.specs.Layout.{kind_at, kind_of, limit_room, stray, stray_in, delay_of, from_of, to_of, price_of, registers_of, floor_of, ceiling_of, clock_of, count_of, gate_word, wire_word, fill_word, clock_word, end_word, Makes}
+use Rattle.words.specs.Layout.{kind_at, kind_of, stray_in, gate_word, wire_word, fill_word, clock_word, end_word, Makes}
 use Rattle.words.specs.Trips.{Plain, Trips}
 
 -- what is made where the numbers fit

@@ -1,10 +1,10 @@
 -- Words put into a memory one after the other.
-use Rattle.std.proofs.Common.{◌≡◌, ℕ, zero, suc, ◌+◌, ◌*◌, ◌<◌, ◌≤◌, Bool, true, false, List, [], ◌∷◌, ◌++◌, map, length, get_or, take, drop, set, is_some, Some, None, Option, sym, refl, ap, ◌∙◌, subst, arith}
+use Rattle.std.proofs.Common.{◌≡◌, ℕ, zero, suc, ◌+◌, ◌*◌, ◌<◌, ◌≤◌, true, false, List, [], ◌∷◌, ◌++◌, map, length, get_or, take, drop, set, is_some, Some, None, Option, sym, refl, ap, ◌∙◌, subst, arith}
 use Rattle.std.specs.List.{AllByRecursion as All}
-use Rattle.std.proofs.lemmas.List.{append-nil, append_assoc, length-append, length-take-le, length_push, take-append-drop, take_more, take_all, drop_more, set_at, length-set, length-map, map_push, map_more}
+use Rattle.std.proofs.lemmas.List.{append-nil, append_assoc, length-append, length-take-le, length_push, take-append-drop, take_more, take_all, drop_more, set_at, length-map, map_more}
 use Rattle.std.proofs.ByRecursion.{All-more}
 use Rattle.words.specs.Layout.{gate_word, wire_word, fill_word}
-use Rattle.words.specs.Netlist.{Wire, Joins, WireWords, none, filled}
+use Rattle.words.specs.Netlist.{Wire, WireWords, none, filled}
 use Rattle.model.specs.Circuit.{kept}
 use Rattle.writer.specs.Writing.{body_of, Puts}
 

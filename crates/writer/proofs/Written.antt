@@ -1,12 +1,12 @@
 -- A file that is put into a memory.
-use Rattle.std.proofs.Common.{◌≡◌, ℕ, zero, suc, ◌+◌, ◌-◌, ◌*◌, ◌<◌, ◌≤◌, List, [], ◌∷◌, ◌++◌, map, length, get_or, take, drop, set, Some, None, Option, sym, refl, ap, ◌∙◌, subst, arith}
+use Rattle.std.proofs.Common.{◌≡◌, ℕ, ◌+◌, ◌*◌, ◌<◌, ◌≤◌, List, [], ◌∷◌, ◌++◌, map, length, take, drop, set, Some, None, Option, sym, refl, ap, ◌∙◌, subst, arith}
 use Rattle.std.specs.List.{AllByRecursion as All}
-use Rattle.std.proofs.lemmas.List.{append_assoc, length-append, length-map, length_push, take_at, drop_at, drop-drop, length-take, length-take-le, length-drop}
+use Rattle.std.proofs.lemmas.List.{append_assoc, length-append, length-map, length_push, take_at, drop_at, drop-drop}
 use Rattle.words.specs.Layout.{gate_word, clock_word, end_word}
 use Rattle.words.specs.Netlist.{Wire, Netlist, Joins, WithinLimits, Spells}
 use Rattle.model.specs.Circuit.{kept}
 use Rattle.writer.specs.Writing.{body_of, file_of, Puts, Tabled, FileIn}
-use Rattle.writer.proofs.Putting.{puts_more, length_body, of_body, kept_below}
+use Rattle.writer.proofs.Putting.{puts_more, length_body, of_body}
 
 -- the file with every fill says what it was made of
 pub file_spells : (s : Netlist) → WithinLimits s → Spells (file_of s) s

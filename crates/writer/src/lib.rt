@@ -23,7 +23,8 @@ fn put_gates(delays: &[u16], out: &mut [u32])
 
 // Puts two words for each wire that is not dropped, and answers where they end.
 fn put_wires(wires: &[Option<Wire>], out: &mut [u32], start: usize) -> usize
-    requires { (start + 2 * length (kept wires.now) ≤ length out.old) × (All (Joins 127) (kept wires.now)) }
+    requires room { start + 2 * length (kept wires.now) ≤ length out.old }
+    requires joins { All (Joins 127) (kept wires.now) }
     ensures words { Puts out.old start (body_of (kept wires.now)) out.new }
     ensures end { result ≡ start + 2 * length (kept wires.now) }
 {
@@ -44,7 +45,7 @@ fn put_wires(wires: &[Option<Wire>], out: &mut [u32], start: usize) -> usize
 pub fn put_file(delays: &[u16], wires: &[Option<Wire>], clock: u32, out: &mut [u32]) -> usize
     requires room { length delays.now + 2 * length (kept wires.now) + 2 ≤ length out.old }
     requires fits { Tabled delays.now wires.now clock }
-    ensures { FileIn (record { delays = delays.entry.now; wires = kept wires.now; clock = clock }) out.old result out.new }
+    ensures { FileIn (record { delays = delays.now; wires = kept wires.now; clock = clock }) out.old result out.new }
 {
     put_gates(delays, out);
     let at = put_wires(wires, out, delays.len());

@@ -7,8 +7,8 @@ loop-i-init c = lemma.gated_none c.args.delays.now c.args.out.now
 
 pub loop-i-preserved : goal.loop-i-preserved
 loop-i-preserved c =
-    let t = c.type-inv.delays c.loop-i.i in
-    lemma.gated_more c.args.delays.now c.loop-i.i c.args.out.now c.loop-i.out c.gate-word.result c.loop-i.invariant c.loop-i-test.true c.requires (omega arith) c.gate-word.ensures
+    let t = c.type_inv.delays c.loop-i.i in
+    lemma.gated_more c.args.delays.now c.loop-i.i c.args.out.now c.loop-i.out c.gate_word.result c.loop-i.invariant c.loop-i-test.true c.requires (omega arith) c.gate_word.ensures
 
 pub returns : goal.returns
 returns c =
