@@ -2,8 +2,8 @@ use Rattle.std.proofs.Common.{◌≡◌, ℕ, ◌+◌, ◌<◌, ◌≤◌, lengt
 use Rattle.graph.proofs.Rows.{inside_rows}
 use Rattle.graph.proofs.graph.Graph.measure.Goals as goal
 
-pub measure-rows-requires : goal.measure-rows-requires
-measure-rows-requires c =
+pub measure_rows-requires : goal.measure_rows-requires
+measure_rows-requires c =
     let s = c.args.self.now in
     let y = s.some in
     let x = s.small in

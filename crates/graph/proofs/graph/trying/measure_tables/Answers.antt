@@ -2,8 +2,8 @@ use Rattle.std.proofs.Common.{◌≡◌, length, take, sym, ◌∙◌, arith}
 use Rattle.graph.proofs.Rows.{inside_rows}
 use Rattle.graph.proofs.graph.trying.measure_tables.Goals as goal
 
-pub measure-rows-requires : goal.measure-rows-requires
-measure-rows-requires c =
+pub measure_rows-requires : goal.measure_rows-requires
+measure_rows-requires c =
     let a = c.args in
     let y = c.requires.sizes.0 in
     let x = c.requires.sizes.1 in
