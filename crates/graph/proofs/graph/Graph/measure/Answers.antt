@@ -11,4 +11,4 @@ measure_rows-requires c =
     let e : length (take s.gates s.delays) ≡ s.gates = omega arith in
     let f : length (take s.wired s.wires) ≡ s.wired = omega arith in
     let g : length (take s.wired s.registers) ≡ s.wired = omega arith in
-    ((omega arith, omega arith, omega arith, g ∙ sym f), inside_rows s.wires s.wired s.gates (length (take s.gates s.delays)) f e s.inside)
+    record { sizes = (omega arith, omega arith, omega arith, g ∙ sym f); inside = inside_rows s.wires s.wired s.gates (length (take s.gates s.delays)) f e s.inside }

@@ -11,4 +11,4 @@ measure_rows-requires c =
     let e : length (take a.gates a.delays.now) ≡ a.gates = omega arith in
     let f : length (take a.wired a.wires.now) ≡ a.wired = omega arith in
     let g : length (take a.wired a.registers.now) ≡ a.wired = omega arith in
-    ((omega arith, omega arith, omega arith, g ∙ sym f), inside_rows a.wires.now a.wired a.gates (length (take a.gates a.delays.now)) f e c.requires.inside)
+    record { sizes = (omega arith, omega arith, omega arith, g ∙ sym f); inside = inside_rows a.wires.now a.wired a.gates (length (take a.gates a.delays.now)) f e c.requires.inside }
