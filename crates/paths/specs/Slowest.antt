@@ -1,5 +1,5 @@
 -- The slowest register-free path.
-use Rattle.std.specs.Prelude.{◌≡◌, ℕ, ◌+◌, ◌<◌, ◌≤◌, ◌⊎◌, List, [], ◌∷◌, ◌++◌, length, get_or, Some, None, Option, slice_index_or}
+use Rattle.std.specs.Prelude.{◌≡◌, ℕ, ◌+◌, ◌<◌, ◌≤◌, ◌⊎◌, List, [], ◌∷◌, ◌++◌, length, Some, None, Option, slice_index, slice_index_or}
 use Rattle.model.specs.declared.Wire.{Wire}
 use Rattle.model.specs.Circuit.{Circuit, Path, gate, step, weight, delay, delay_of, gates}
 use Rattle.ways.specs.Kinds.{delays}
@@ -33,13 +33,13 @@ Free found d = ((k : ℕ) → found ≡ Some (0, k) → d ≡ k) × (0 < d → f
 -- v has a distance without registers, of the greatest delay m
 pub record Top (dist : List (Option (ℕ × ℕ))) (v m : ℕ) : Type 0 where
   pub there : v < length dist
-  pub is : get_or dist v None ≡ Some (0, m)
+  pub is : slice_index_or dist v None ≡ Some (0, m)
   pub most : (x k : ℕ) → x < length dist → slice_index_or dist x None ≡ Some (0, k) → k ≤ m
 
 -- the table keeps a way without registers from u to v, whose gates have the delay d together, and no path from u without registers is slower
 pub record Reached (ds : List ℕ) (ws : List (Option Wire)) (u : ℕ) (table lens : List ℕ) (v d : ℕ) : Type 0 where
   pub there : v < 128
-  pub few : get_or lens v 0 < 128
+  pub few : slice_index lens v < 128
   pub way : Leads (wire_arcs ds ws) u (row table lens v) v
   pub free : (total delays (wire_arcs ds ws) (row table lens v)).0 ≡ 0
   pub slow : (total delays (wire_arcs ds ws) (row table lens v)).1 + delay_of (circuit ds ws) u ≡ d

@@ -1,5 +1,5 @@
 -- What holds while distances fall.
-use Rattle.std.specs.Prelude.{◌≡◌, ℕ, ◌+◌, ◌<◌, ◌≤◌, Bool, true, false, ◌⊎◌, List, [], ◌∷◌, length, get_or, Some, None, Option, ◌≢◌, slice_index, slice_index_or}
+use Rattle.std.specs.Prelude.{◌≡◌, ℕ, ◌+◌, ◌<◌, ◌≤◌, Bool, true, false, ◌⊎◌, List, [], ◌∷◌, length, Some, None, Option, ◌≢◌, slice_index, slice_index_or}
 use Rattle.ways.specs.Laws.{Kind}
 use Rattle.ways.specs.Walks.{Leads, total, Clear, row, near, past, Closes}
 use Rattle.ways.specs.declared.net.Arc.{Arc}
@@ -27,7 +27,7 @@ Short K at s n dist = (v : ℕ) × (ps : List ℕ) × (length ps < n) × Leads a
 pub record Better {L : Type 0} (K : Kind L) (at : ℕ → Option (Arc L)) (i : ℕ) (dist : List (Option L)) (arc : Arc L) (sum : L) : Type 0 where
   pub stands : at i ≡ Some arc
   pub far : L
-  pub from : get_or dist arc.tail None ≡ Some far
+  pub from : slice_index_or dist arc.tail None ≡ Some far
   pub is : sum ≡ K.sum far arc.length
   pub less : near K (slice_index_or dist arc.head None) (Some sum) ≡ false
 

@@ -25,7 +25,7 @@ pub trait Net {
     // How many places there are.
     ghost many: { Self → ℕ };
 
-    // No arc stands at or past `many`. It is a member and no `law`, so that a type with a lifetime can be a net.
+    // No arc stands at or past `many`.
     ghost places: { (s : Self) (a : ℕ) (x : Arc Self.Length) → arcs s a ≡ Some x → a < many s };
 
     // That many.
@@ -65,7 +65,7 @@ impl<'a, L: Distance> Net for Listed<'a, L> {
 
 // Whether what stands at the place i joins vertices below n, and is short enough.
 fn fair<N: Net>(net: &N, n: usize, i: usize) -> bool
-    ensures { Decides result (Fair N.Length.Distance.kind n (arcs net.now i)) }
+    ensures { Decides result (Fair N.Length.Distance.kind n (N.arcs net.now i)) }
 {
     match net.arc(i) {
         Some(arc) => arc.tail < n && arc.head < n && arc.length.one_step(),
@@ -75,7 +75,7 @@ fn fair<N: Net>(net: &N, n: usize, i: usize) -> bool
 
 // Whether `ways` can go over the net with n vertices: n is at most 128, there are at most 65536 places, and each is fair.
 pub fn sound<N: Net>(net: &N, n: usize) -> bool
-    ensures { Decides result (Sound N.Length.Distance.kind (arcs net.now) (many net.now) n) }
+    ensures { Decides result (Sound N.Length.Distance.kind (N.arcs net.now) (N.many net.now) n) }
 {
     if n > 128 || net.count() > 65536 {
         return false;

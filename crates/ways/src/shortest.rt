@@ -44,12 +44,12 @@ fn improve<N: Net>(
     lens: &mut [u8],
     out: &mut [u16],
 ) -> Option<usize>
-    requires sound { Sound N.Length.Distance.kind (arcs net.now) (many net.now) (length dist.old) }
+    requires sound { Sound N.Length.Distance.kind (N.arcs net.now) (N.many net.now) (length dist.old) }
     requires sizes { (length lens.old ≡ length dist.old) × (16384 ≤ length table.old) × (128 ≤ length out.old) }
-    requires kept { Kept N.Length.Distance.kind (arcs net.now) start dist.old table.old lens.old }
-    requires better { Better N.Length.Distance.kind (arcs net.now) i dist.old arc sum }
+    requires kept { Kept N.Length.Distance.kind (N.arcs net.now) start dist.old table.old lens.old }
+    requires better { Better N.Length.Distance.kind (N.arcs net.now) i dist.old arc sum }
     requires within { (arc.tail < length dist.old) × (arc.head < length dist.old) × (length dist.old ≤ 128) × (i < 65536) × (slice_index lens.old arc.tail < length dist.old) }
-    ensures { Improved N.Length.Distance.kind (arcs net.now) start i dist.old dist.new table.new lens.new out.new result }
+    ensures { Improved N.Length.Distance.kind (N.arcs net.now) start i dist.old dist.new table.new lens.new out.new result }
 {
     let len = lens[arc.tail] as usize;
     match met(net, arc.tail, arc.head, arc.tail * 128, len, table) {
@@ -76,10 +76,10 @@ fn relax<N: Net>(
     lens: &mut [u8],
     out: &mut [u16],
 ) -> Step
-    requires sound { Sound N.Length.Distance.kind (arcs net.now) (many net.now) (length dist.old) }
+    requires sound { Sound N.Length.Distance.kind (N.arcs net.now) (N.many net.now) (length dist.old) }
     requires sizes { (length lens.old ≡ length dist.old) × (16384 ≤ length table.old) × (128 ≤ length out.old) }
-    requires kept { Kept N.Length.Distance.kind (arcs net.now) start dist.old table.old lens.old }
-    ensures { Relaxed N.Length.Distance.kind (arcs net.now) start i dist.old dist.new table.new lens.new out.new result }
+    requires kept { Kept N.Length.Distance.kind (N.arcs net.now) start dist.old table.old lens.old }
+    ensures { Relaxed N.Length.Distance.kind (N.arcs net.now) start i dist.old dist.new table.new lens.new out.new result }
 {
     if let Some(arc) = net.arc(i) {
         let from = dist[arc.tail];
@@ -105,10 +105,10 @@ fn round<N: Net>(
     lens: &mut [u8],
     out: &mut [u16],
 ) -> Step
-    requires sound { Sound N.Length.Distance.kind (arcs net.now) (many net.now) (length dist.old) }
+    requires sound { Sound N.Length.Distance.kind (N.arcs net.now) (N.many net.now) (length dist.old) }
     requires sizes { (length lens.old ≡ length dist.old) × (16384 ≤ length table.old) × (128 ≤ length out.old) }
-    requires kept { Kept N.Length.Distance.kind (arcs net.now) start dist.old table.old lens.old }
-    ensures { Rounded N.Length.Distance.kind (arcs net.now) start (many net.now) dist.old dist.new table.new lens.new out.new result }
+    requires kept { Kept N.Length.Distance.kind (N.arcs net.now) start dist.old table.old lens.old }
+    ensures { Rounded N.Length.Distance.kind (N.arcs net.now) start (N.many net.now) dist.old dist.new table.new lens.new out.new result }
 {
     let mut changed = false;
     for i in 0..net.count() {
@@ -144,10 +144,10 @@ pub fn ways<N: Net>(
     lens: &mut [u8],
     out: &mut [u16],
 ) -> Outcome
-    requires sound { Sound N.Length.Distance.kind (arcs net.now) (many net.now) (length dist.old) }
+    requires sound { Sound N.Length.Distance.kind (N.arcs net.now) (N.many net.now) (length dist.old) }
     requires start { start < length dist.old }
     requires sizes { (length lens.old ≡ length dist.old) × (16384 ≤ length table.old) × (128 ≤ length out.old) }
-    ensures { Answered N.Length.Distance.kind (arcs net.now) start dist.new table.new lens.new out.new result }
+    ensures { Answered N.Length.Distance.kind (N.arcs net.now) start dist.new table.new lens.new out.new result }
 {
     begin(start, dist, lens);
     for k in 0..dist.len() {

@@ -7,7 +7,7 @@ use crate::net::Net;
 
 // Whether the arc at the place a leaves `to`.
 fn leaves<N: Net>(net: &N, to: usize, a: usize) -> bool
-    ensures { Decides result (Leaves (arcs net.now) to a) }
+    ensures { Decides result (Leaves (N.arcs net.now) to a) }
 {
     match net.arc(a) {
         Some(arc) => arc.tail == to,
@@ -18,7 +18,7 @@ fn leaves<N: Net>(net: &N, to: usize, a: usize) -> bool
 // Where, among the `len` cells from `base` on, an arc first leaves `to`.
 fn leaving<N: Net>(net: &N, to: usize, base: usize, len: usize, table: &[u16]) -> Option<usize>
     requires { base + len ≤ length table.now }
-    ensures { MatchOption result (Clear (arcs net.now) to (cells table.now base len)) (λ p. (p < len) × Leaves (arcs net.now) to (slice_index table.now (base + p)) × Clear (arcs net.now) to (cells table.now base p)) }
+    ensures { MatchOption result (Clear (N.arcs net.now) to (cells table.now base len)) (λ p. (p < len) × Leaves (N.arcs net.now) to (slice_index table.now (base + p)) × Clear (N.arcs net.now) to (cells table.now base p)) }
 {
     for p in 0..len {
         if leaves(net, to, table[base + p] as usize) {
@@ -38,7 +38,7 @@ pub fn met<N: Net>(
     table: &[u16],
 ) -> Option<usize>
     requires { base + len ≤ length table.now }
-    ensures { MatchOption result ((from ≢ to) × Clear (arcs net.now) to (cells table.now base len)) (λ p. Meets (arcs net.now) table.now base len from to p) }
+    ensures { MatchOption result ((from ≢ to) × Clear (N.arcs net.now) to (cells table.now base len)) (λ p. Meets (N.arcs net.now) table.now base len from to p) }
 {
     if from == to {
         return Some(len);

@@ -12,33 +12,33 @@ use Rattle.bench.specs.Findings.{Inspected}
 use Rattle.bench.proofs.Findings.{kept_all, some_same}
 use Rattle.bench.proofs.finding.inspect.Goals as goal
 
-pub overflow-cast-result : goal.overflow-cast-result
-overflow-cast-result c =
-    let l = c.in-ok-load.ensures.outcome in
+pub overflow_cast-result : goal.overflow_cast-result
+overflow_cast-result c =
+    let l = c.in_ok-load.ensures.outcome in
     let s = file_long c.args.words.now l.netlist l.spelled in
     record { fits = omega arith }
 
-pub returns-in-err-load : goal.returns-in-err-load
-returns-in-err-load c =
+pub returns-in_err-load : goal.returns-in_err-load
+returns-in_err-load c =
     let ws = c.args.words.now in
-    let f = c.in-err-load.field-0.0 in
-    let p = err_from_is_err_and c.from-residual.result c.from-residual.ensures.1 in
-    let e : c.from-residual.result ≡ Err f = p.1 ∙ ap (λ (x : LoadRefusal). Err x) p.2 in
-    subst (λ (r : Result Finding LoadRefusal). Inspected ws c.args.spare r) (sym e) (record { outcome = inl c.in-err-load.ensures.outcome.fault })
+    let f = c.in_err-load.field-0.0 in
+    let p = err_from_is_err_and c.from_residual.result c.from_residual.ensures.1 in
+    let e : c.from_residual.result ≡ Err f = p.1 ∙ ap (λ (x : LoadRefusal). Err x) p.2 in
+    subst (λ (r : Result Finding LoadRefusal). Inspected ws c.args.spare r) (sym e) (record { outcome = inl c.in_err-load.ensures.outcome.fault })
 
 pub returns-then-spare : goal.returns-then-spare
 returns-then-spare c =
-    let l = c.in-ok-load.ensures.outcome in
+    let l = c.in_ok-load.ensures.outcome in
     record { outcome = inr (c.if-spare.true, record { netlist = l.netlist; spelled = l.spelled; says = refl }) }
 
 pub unwrap-requires : goal.unwrap-requires
 unwrap-requires c =
-    let l = c.in-ok-load.ensures.outcome in
+    let l = c.in_ok-load.ensures.outcome in
     ap is_some (c.ticks.ensures ∙ l.held.clock)
 
 pub returns : goal.returns
 returns c =
-    let l = c.in-ok-load.ensures.outcome in
+    let l = c.in_ok-load.ensures.outcome in
     let n = l.netlist in
     let is = l.held.graph in
     record {

@@ -12,12 +12,12 @@ farthest-v-requires c = (
   start_zero c.args.delays.now c.args.wires.now c.args.u c.settle.new.dist c.settle.new.table c.settle.new.lens (omega arith) c.settle.ensures,
 )
 
-pub overflow-add-result : goal.overflow-add-result
-overflow-add-result c =
+pub overflow_add-result : goal.overflow_add-result
+overflow_add-result c =
     let top = c.farthest-v.ensures in
     let far = c.settle.ensures.fits c.farthest-v.result.0 (0, c.farthest-v.result.1) top.there top.is in
     let few = c.settle.ensures.few c.farthest-v.result.0 (0, c.farthest-v.result.1) top.there top.is in
-    let slow = c.type-inv.delays c.args.u in
+    let slow = c.type_inv.delays c.args.u in
     let own = c.from.ensures in
     omega arith
 

@@ -1,8 +1,8 @@
 use Rattle.std.proofs.Common.{arith}
 use Rattle.paths.proofs.critical.slowest.Goals as goal
 
-pub slowest-of-requires : goal.slowest-of-requires
-slowest-of-requires c = record {
+pub slowest_of-requires : goal.slowest_of-requires
+slowest_of-requires c = record {
   free = c.requires.free;
   deep = c.requires.deep;
   gates = c.requires.gates;
@@ -10,4 +10,4 @@ slowest-of-requires c = record {
 }
 
 pub returns : goal.returns
-returns c = record { slowest = c.slowest-of.ensures.slowest; count = c.slowest-of.ensures.count; rest = c.slowest-of.ensures.rest }
+returns c = record { slowest = c.slowest_of.ensures.slowest; count = c.slowest_of.ensures.count; rest = c.slowest_of.ensures.rest }

@@ -19,8 +19,8 @@ reach-v-requires c = record {
   sizes = (omega arith, omega arith, omega arith, omega arith);
 }
 
-pub write-gates-len-requires : goal.write-gates-len-requires
-write-gates-len-requires c =
+pub write_gates-len-requires : goal.write_gates-len-requires
+write_gates-len-requires c =
     let there = c.reach-v.ensures.there in
     let few = c.reach-v.ensures.few in
     (omega arith, omega arith)
@@ -32,12 +32,12 @@ loop-u-preserved c =
       | then-best-d w ↦
           let len = w.len-is in
           let out = w.out-is in
-          let count = w.write-gates-len.ensures.count in
-          let wrote = w.write-gates-len.ensures.gates in
+          let count = w.write_gates-len.ensures.count in
+          let wrote = w.write_gates-len.ensures.gates in
           let is : take c.if-best-d.len c.if-best-d.out ≡ stations c.args.wires.now c.loop-u.u (row c.reach-v.new.table c.reach-v.new.lens c.reach-v.result.0) = cc in (
             omega arith,
             subst (Beyond 128 c.args.out.now) (sym out)
-                (beyond_then (get_or c.reach-v.new.lens c.reach-v.result.0 0 + 1) 128 c.args.out.now c.loop-u.out w.write-gates-len.new.out (omega arith) c.loop-u.invariant.1 w.write-gates-len.ensures.rest),
+                (beyond_then (get_or c.reach-v.new.lens c.reach-v.result.0 0 + 1) 128 c.args.out.now c.loop-u.out w.write_gates-len.new.out (omega arith) c.loop-u.invariant.1 w.write_gates-len.ensures.rest),
             subst (λ d. SoFar (circuit c.args.delays.now c.args.wires.now) (c.loop-u.u + 1) d (take c.if-best-d.len c.if-best-d.out)) (sym w.best-is)
                 (so_far_new c.args.delays.now c.args.wires.now c.loop-u.u c.reach-v.result.0 c.reach-v.result.1 c.loop-u.best c.reach-v.new.table c.reach-v.new.lens _ _
                 (record { apart = omega arith; there = omega arith }) (omega (arith, w.if-best-d.true)) c.reach-v.ensures is c.loop-u.invariant.2),

@@ -5,8 +5,8 @@ use Rattle.paths.proofs.Routes.{host_row}
 use Rattle.paths.proofs.Filling.{row_in, rows_more, beyond_none, beyond_more, beyond_after}
 use Rattle.paths.proofs.tables.fill_rows.Goals as goal
 
-pub write-row-requires : goal.write-row-requires
-write-row-requires c =
+pub write_row-requires : goal.write_row-requires
+write_row-requires c =
     let k = row_in 0 (length c.args.delays.now) (length c.args.delays.now) (omega arith) in
     record {
       sizes = (omega arith, omega arith, omega arith, omega arith, omega arith);
@@ -15,13 +15,13 @@ write-row-requires c =
 
 pub loop-u-init : goal.loop-u-init
 loop-u-init c = (
-  host_row c.args.delays.now c.args.wires.now 0 c.args.dist.now c.write-row.new.least c.write-row.new.most c.requires.none c.write-row.ensures.told,
+  host_row c.args.delays.now c.args.wires.now 0 c.args.dist.now c.write_row.new.least c.write_row.new.most c.requires.none c.write_row.ensures.told,
   beyond_none _ _,
   beyond_none _ _,
 )
 
-pub fill-row-requires : goal.fill-row-requires
-fill-row-requires c =
+pub fill_row-requires : goal.fill_row-requires
+fill_row-requires c =
     let k = row_in c.loop-u.u (length c.args.delays.now) (length c.args.delays.now) (omega arith) in
     record {
       free = c.requires.free;
@@ -41,6 +41,6 @@ loop-u-preserved c = (
 pub returns : goal.returns
 returns c = record {
   filled = record { cells = λ u v lu lv. c.loop-u.invariant.0 u v (omega arith) lv };
-  least = beyond_after (length c.args.delays.now) _ _ _ (omega arith) c.write-row.ensures.least c.loop-u.invariant.1;
-  most = beyond_after (length c.args.delays.now) _ _ _ (omega arith) c.write-row.ensures.most c.loop-u.invariant.2;
+  least = beyond_after (length c.args.delays.now) _ _ _ (omega arith) c.write_row.ensures.least c.loop-u.invariant.1;
+  most = beyond_after (length c.args.delays.now) _ _ _ (omega arith) c.write_row.ensures.most c.loop-u.invariant.2;
 }

@@ -1,8 +1,8 @@
 use Rattle.std.proofs.Common.{arith}
 use Rattle.paths.proofs.tables.fill_tables.Goals as goal
 
-pub fill-rows-requires : goal.fill-rows-requires
-fill-rows-requires c = record {
+pub fill_rows-requires : goal.fill_rows-requires
+fill_rows-requires c = record {
   free = c.requires.free;
   deep = c.requires.deep;
   gates = c.requires.gates;
@@ -12,4 +12,4 @@ fill-rows-requires c = record {
 }
 
 pub returns : goal.returns
-returns c = record { filled = c.fill-rows.ensures.filled; least = c.fill-rows.ensures.least; most = c.fill-rows.ensures.most }
+returns c = record { filled = c.fill_rows.ensures.filled; least = c.fill_rows.ensures.least; most = c.fill_rows.ensures.most }

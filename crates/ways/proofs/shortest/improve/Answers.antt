@@ -6,7 +6,7 @@ pub returns-in-Some : goal.returns-in-Some
 returns-in-Some g c = record {
   within = omega arith;
   loop = closes g.met.N.Length.Distance.distances _ _ _ _ _ _ c.requires.sound c.requires.kept c.args.i c.args.arc c.args.sum c.requires.better
-      c.in-Some.p c.write-out.new.out c.in-Some.ensures c.write-out.ensures.arcs;
+      c.in-Some.p c.write_out.new.out c.in-Some.ensures c.write_out.ensures.arcs;
 }
 
 pub returns-in-None : goal.returns-in-None

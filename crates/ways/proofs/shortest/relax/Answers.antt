@@ -3,8 +3,8 @@ use Rattle.std.proofs.lemmas.Bool.{not-true, not-false}
 use Rattle.ways.proofs.Steps.{moved_none, moved_far, one_more, within, is_better, no_better}
 use Rattle.ways.proofs.shortest.relax.Goals as goal
 
-pub offset-bounds-dist-arc : goal.offset-bounds-dist-arc
-offset-bounds-dist-arc g c = let h : c.in-Some.arc.tail < length c.args.dist.now = c.requires.sound.tail _ _ (sym c.arc.ensures ∙ c.in-Some.is) in search rules
+pub offset_bounds-dist-arc : goal.offset_bounds-dist-arc
+offset_bounds-dist-arc g c = let h : c.in-Some.arc.tail < length c.args.dist.now = c.requires.sound.tail _ _ (sym c.arc.ensures ∙ c.in-Some.is) in search rules
 
 pub bounds-dist-arc : goal.bounds-dist-arc
 bounds-dist-arc g c = c.requires.sound.tail _ _ (sym c.arc.ensures ∙ c.in-Some.is)
@@ -14,8 +14,8 @@ plus-sum-requires g c =
     one_more g.met.N.Length.Distance.distances _ _ _ _ _ _ c.requires.sound c.requires.kept c.args.i c.in-Some.arc (sym c.arc.ensures ∙ c.in-Some.is)
     c.index-dist-arc.result c.index-dist-arc.is c.in-Some-from.far c.in-Some-from.is
 
-pub offset-bounds-dist-arc-in-Some-from : goal.offset-bounds-dist-arc-in-Some-from
-offset-bounds-dist-arc-in-Some-from g c = let h : c.in-Some.arc.head < length c.args.dist.now = c.requires.sound.head _ _ (sym c.arc.ensures ∙ c.in-Some.is) in search rules
+pub offset_bounds-dist-arc-in-Some-from : goal.offset_bounds-dist-arc-in-Some-from
+offset_bounds-dist-arc-in-Some-from g c = let h : c.in-Some.arc.head < length c.args.dist.now = c.requires.sound.head _ _ (sym c.arc.ensures ∙ c.in-Some.is) in search rules
 
 pub bounds-dist-arc-in-Some-from : goal.bounds-dist-arc-in-Some-from
 bounds-dist-arc-in-Some-from g c = c.requires.sound.head _ _ (sym c.arc.ensures ∙ c.in-Some.is)
@@ -40,15 +40,15 @@ returns-else-beats g c = (
   refl,
 )
 
-pub returns-in-default-from : goal.returns-in-default-from
-returns-in-default-from g c = (
+pub returns-in_default-from : goal.returns-in_default-from
+returns-in_default-from g c = (
   moved_far g.met.N.Length.Distance.distances _ _ _ _ _ _ c.requires.sound c.requires.kept c.args.i c.in-Some.arc (sym c.arc.ensures ∙ c.in-Some.is)
-      c.index-dist-arc.result c.index-dist-arc.is c.in-default-from.is,
+      c.index-dist-arc.result c.index-dist-arc.is c.in_default-from.is,
   refl,
 )
 
-pub returns-in-default : goal.returns-in-default
-returns-in-default g c = (
-  moved_none g.met.N.Length.Distance.distances _ _ _ _ _ _ c.requires.sound c.requires.kept c.args.i (sym c.arc.ensures ∙ c.in-default.is),
+pub returns-in_default : goal.returns-in_default
+returns-in_default g c = (
+  moved_none g.met.N.Length.Distance.distances _ _ _ _ _ _ c.requires.sound c.requires.kept c.args.i (sym c.arc.ensures ∙ c.in_default.is),
   refl,
 )

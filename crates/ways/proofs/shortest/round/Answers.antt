@@ -1,5 +1,4 @@
 use Rattle.std.proofs.Common.{◌≡◌, true, false, length, sym, refl, subst, arith}
-use Rattle.ways.specs.Walks.{Sound}
 use Rattle.ways.specs.Keeps.{Changed}
 use Rattle.ways.proofs.Turns.{tried_start, tried_more, short_old, changed_same, round_end, sound_long}
 use Rattle.ways.proofs.shortest.round.Goals as goal

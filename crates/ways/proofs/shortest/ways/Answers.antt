@@ -1,6 +1,6 @@
 use Rattle.std.proofs.Common.{◌≡◌, ◌<◌, length, get_or, sym, ap, ◌∙◌, subst, arith}
 use Rattle.std.proofs.lemmas.List.{get_or-set_same}
-use Rattle.ways.specs.Walks.{Sound, Best}
+use Rattle.ways.specs.Walks.{Best}
 use Rattle.ways.specs.Keeps.{Tried}
 use Rattle.ways.proofs.Turns.{after_start, after_next, more_left, best, sound_long}
 use Rattle.ways.proofs.shortest.ways.Goals as goal

@@ -23,7 +23,7 @@ slowest-len-requires c =
     record {
       gates = ((let a = g.some in omega arith), (let a = g.small in omega arith), (let a = ap length same in let b = numbers_held g in let d = g.short in omega arith));
       deep = subst (λ (ws : List (Option Wire)). (i : ℕ) → registers_of (get_or ws i None) ≤ 255) (sym same) (rows_deep (take g.wired g.wires) (take g.wired g.registers) c.listed-list.ensures.bytes);
-      free = subst (λ (ws : List (Option Wire)). NoFreeLoop (record { delays = (circuit g).delays; wires = ws })) (sym same) c.in-default.ensures.outcome.free;
+      free = subst (λ (ws : List (Option Wire)). NoFreeLoop (record { delays = (circuit g).delays; wires = ws })) (sym same) c.in_default.ensures.outcome.free;
       room = omega arith;
     }
 

@@ -11,7 +11,7 @@ spans-requires c =
     let s = c.args.self.now in
     let f = wires_held s in
     let z = s.short in
-    ((s.some, s.small, omega arith), inside_rows s.wires s.wired s.gates s.gates f refl s.inside)
+    record { sizes = (s.some, s.small, omega arith); inside = inside_rows s.wires s.wired s.gates s.gates f refl s.inside }
 
 pub returns-in-None : goal.returns-in-None
 returns-in-None c =

@@ -2,8 +2,8 @@ use Rattle.std.proofs.Common.{◌≡◌, ℕ, ◌+◌, ◌<◌, ◌≤◌, lengt
 use Rattle.graph.proofs.Rows.{inside_rows}
 use Rattle.graph.proofs.graph.Graph.measure.Goals as goal
 
-pub measure-rows-requires : goal.measure-rows-requires
-measure-rows-requires c =
+pub measure_rows-requires : goal.measure_rows-requires
+measure_rows-requires c =
     let s = c.args.self.now in
     let y = s.some in
     let x = s.small in
@@ -11,4 +11,4 @@ measure-rows-requires c =
     let e : length (take s.gates s.delays) ≡ s.gates = omega arith in
     let f : length (take s.wired s.wires) ≡ s.wired = omega arith in
     let g : length (take s.wired s.registers) ≡ s.wired = omega arith in
-    ((omega arith, omega arith, omega arith, g ∙ sym f), inside_rows s.wires s.wired s.gates (length (take s.gates s.delays)) f e s.inside)
+    record { sizes = (omega arith, omega arith, omega arith, g ∙ sym f); inside = inside_rows s.wires s.wired s.gates (length (take s.gates s.delays)) f e s.inside }

@@ -9,8 +9,8 @@ use Rattle.graph.proofs.Rows.{rows_deep}
 use Rattle.graph.proofs.Holds.{gates_held, wires_held, rows_even, numbers_held, cells_held}
 use Rattle.graph.proofs.graph.Graph.paths.Goals as goal
 
-pub overflow-mul-cells : goal.overflow-mul-cells
-overflow-mul-cells c =
+pub overflow_mul-cells : goal.overflow_mul-cells
+overflow_mul-cells c =
     let g = c.args.self.now in
     let a : g.gates * g.gates ≤ 128 * 128 = mul-le-mul g.small g.small in
     record { fits = omega arith }
@@ -38,8 +38,8 @@ returns-in-Err c =
 pub listed-list-requires : goal.listed-list-requires
 listed-list-requires c = let g = c.args.self.now in (rows_even g, (let a = wires_held g in let b = g.short in omega arith))
 
-pub fill-tables-requires : goal.fill-tables-requires
-fill-tables-requires c =
+pub fill_tables-requires : goal.fill_tables-requires
+fill_tables-requires c =
     let g = c.args.self.now in
     let list = c.listed-list.result in
     let same : take g.wired list ≡ (circuit g).wires = ap (λ (n : ℕ). take n list) (sym (wires_held g)) ∙ c.listed-list.ensures.wires in
@@ -48,7 +48,7 @@ fill-tables-requires c =
     record {
       gates = ((let a = g.some in omega arith), (let a = g.small in omega arith), (let a = ap length same in let b = numbers_held g in let d = g.short in omega arith));
       deep = subst (λ (ws : List (Option Wire)). (i : ℕ) → registers_of (get_or ws i None) ≤ 255) (sym same) (rows_deep (take g.wired g.wires) (take g.wired g.registers) c.listed-list.ensures.bytes);
-      free = subst (λ (ws : List (Option Wire)). NoFreeLoop (record { delays = (circuit g).delays; wires = ws })) (sym same) c.in-default.ensures.outcome.free;
+      free = subst (λ (ws : List (Option Wire)). NoFreeLoop (record { delays = (circuit g).delays; wires = ws })) (sym same) c.in_default.ensures.outcome.free;
       room = ((let a = c.if-least-cells.false in omega arith), (let a = c.if-most-cells.false in omega arith));
     }
 
@@ -59,9 +59,9 @@ returns c =
     let same : take g.wired list ≡ (circuit g).wires = ap (λ (n : ℕ). take n list) (sym (wires_held g)) ∙ c.listed-list.ensures.wires in
     record {
       outcome = record {
-        free = c.in-default.ensures.outcome.free;
-        filled = subst (λ (ws : List (Option Wire)). Filled (record { delays = (circuit g).delays; wires = ws }) c.fill-tables.new.least c.fill-tables.new.most) same c.fill-tables.ensures.filled;
-        least = c.fill-tables.ensures.least;
-        most = c.fill-tables.ensures.most;
+        free = c.in_default.ensures.outcome.free;
+        filled = subst (λ (ws : List (Option Wire)). Filled (record { delays = (circuit g).delays; wires = ws }) c.fill_tables.new.least c.fill_tables.new.most) same c.fill_tables.ensures.filled;
+        least = c.fill_tables.ensures.least;
+        most = c.fill_tables.ensures.most;
       };
     }

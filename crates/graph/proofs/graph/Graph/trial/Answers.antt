@@ -43,9 +43,9 @@ returns c =
     let live = not-false _ c.if-not-ends.false in
     let ds = take s.gates s.delays in
     let e = set_fits ds s.wires s.registers s.wired c.args.wire c.args.registers h l c.if-at-self.false live c.if-registers-gt255.false in
-    let r = c.trial-in.result in
-    let m = subst (λ (ws : List (Option Wire)). Measured (record { delays = ds; wires = ws }) r) (row_set s.wires s.registers s.wired h l c.args.wire c.args.registers c.if-at-self.false live) c.trial-in.ensures.answer in
+    let r = c.trial_in.result in
+    let m = subst (λ (ws : List (Option Wire)). Measured (record { delays = ds; wires = ws }) r) (row_set s.wires s.registers s.wired h l c.args.wire c.args.registers c.if-at-self.false live) c.trial_in.ensures.answer in
     record {
       answer = record { outcome = subst (λ (a : Result Unit Refusal). TriedAs (circuit s) c.args.wire c.args.registers a r) (sym e) m };
-      same = same_graph _ _ refl refl refl c.trial-in.ensures.same refl refl;
+      same = same_graph _ _ refl refl refl c.trial_in.ensures.same refl refl;
     }

@@ -5,20 +5,20 @@ use Rattle.graph.proofs.Writing as lemma
 use Rattle.graph.proofs.Holds.{gates_held, wires_held, rows_even}
 use Rattle.graph.proofs.graph.Graph.write.Goals as goal
 
-pub overflow-mul-long : goal.overflow-mul-long
-overflow-mul-long c = let f = lemma.live_few c.args.self.now in let l = c.wires.ensures in record { fits = omega arith }
+pub overflow_mul-long : goal.overflow_mul-long
+overflow_mul-long c = let f = lemma.live_few c.args.self.now in let l = c.wires.ensures in record { fits = omega arith }
 
-pub overflow-add-long : goal.overflow-add-long
-overflow-add-long c = let f = lemma.live_few c.args.self.now in let l = c.wires.ensures in let s = c.args.self.now.small in record { fits = omega arith }
+pub overflow_add-long : goal.overflow_add-long
+overflow_add-long c = let f = lemma.live_few c.args.self.now in let l = c.wires.ensures in let s = c.args.self.now.small in record { fits = omega arith }
 
-pub overflow-add-long-2 : goal.overflow-add-long-2
-overflow-add-long-2 c = let f = lemma.live_few c.args.self.now in let l = c.wires.ensures in let s = c.args.self.now.small in record { fits = omega arith }
+pub overflow_add-long-2 : goal.overflow_add-long-2
+overflow_add-long-2 c = let f = lemma.live_few c.args.self.now in let l = c.wires.ensures in let s = c.args.self.now.small in record { fits = omega arith }
 
 pub listed-list-requires : goal.listed-list-requires
 listed-list-requires c = let g = c.args.self.now in (rows_even g, (let a = wires_held g in let b = g.short in omega arith))
 
-pub put-file-requires : goal.put-file-requires
-put-file-requires c =
+pub put_file-requires : goal.put_file-requires
+put_file-requires c =
     let g = c.args.self.now in
     let list = c.listed-list.result in
     let bytes = c.listed-list.ensures.bytes in
@@ -37,13 +37,13 @@ returns-then-out-long c =
     let r = c.if-out-long.true in
     record { outcome = (inl (record { says = refl; room = omega arith }), refl) }
 
-pub returns-in-default : goal.returns-in-default
-returns-in-default c =
+pub returns-in_default : goal.returns-in_default
+returns-in_default c =
     let g = c.args.self.now in
     let l = c.wires.ensures in
     let n = gates_held g in
     let r = c.if-out-long.false in
-    record { outcome = (inr (record { says = refl; room = omega arith; clock = c.in-default.is }), refl) }
+    record { outcome = (inr (record { says = refl; room = omega arith; clock = c.in_default.is }), refl) }
 
 pub returns : goal.returns
 returns c =
@@ -51,12 +51,12 @@ returns c =
     let list = c.listed-list.result in
     let bytes = c.listed-list.ensures.bytes in
     let same : take g.wired list ≡ (circuit g).wires = ap (λ (n : ℕ). take n list) (sym (wires_held g)) ∙ c.listed-list.ensures.wires in
-    let f = lemma.written g bytes list same c.in-Some.clock c.put-file.result c.args.out.now c.put-file.new.out c.put-file.ensures in
+    let f = lemma.written g bytes list same c.in-Some.clock c.put_file.result c.args.out.now c.put_file.new.out c.put_file.ensures in
     record {
       outcome = record {
         clock = c.in-Some.clock;
         clocked = c.in-Some.is;
-        long = lemma.file_length g c.in-Some.clock c.put-file.result c.args.out.now c.put-file.new.out f;
+        long = lemma.file_length g c.in-Some.clock c.put_file.result c.args.out.now c.put_file.new.out f;
         file = f;
       };
     }

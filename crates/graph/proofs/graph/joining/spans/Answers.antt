@@ -9,10 +9,10 @@ use Rattle.graph.proofs.graph.joining.spans.Goals as goal
 
 pub unreached-requires : goal.unreached-requires
 unreached-requires c =
-    let l : length (take c.args.gates c.unmarked-marks.result) ≡ c.args.gates = length-take-le c.args.gates c.unmarked-marks.result (let a = c.requires.sizes.1 in let b = c.unmarked-marks.ensures in omega arith) in (
-      subst (λ (n : ℕ). Ended n (take c.double-n.result c.double-n.new.arcs)) (sym l) (subst (λ (xs : List Arc). Ended c.args.gates xs) (sym c.double-n.ensures.found) (both_ended c.args.wires.now c.args.gates c.requires.inside)),
-      (let a = c.requires.sizes.1 in omega arith),
-    )
+    let l : length (take c.args.gates c.unmarked-marks.result) ≡ c.args.gates = length-take-le c.args.gates c.unmarked-marks.result (let a = c.requires.sizes.1 in let b = c.unmarked-marks.ensures in omega arith) in record {
+      ended = subst (λ (n : ℕ). Ended n (take c.double-n.result c.double-n.new.arcs)) (sym l) (subst (λ (xs : List Arc). Ended c.args.gates xs) (sym c.double-n.ensures.found) (both_ended c.args.wires.now c.args.gates c.requires.inside));
+      few_marks = (let a = c.requires.sizes.1 in omega arith);
+    }
 
 pub returns : goal.returns
 returns c =

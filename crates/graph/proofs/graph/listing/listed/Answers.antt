@@ -34,5 +34,5 @@ returns c =
           ∙ c.loop-i.invariant.1
           ∙ ap (λ (xs : List Ends). wires_of xs (take i rs)) (take_all i es c.loop-i-test.false)
           ∙ ap (λ (ys : List ℕ). wires_of es ys) (take_all i rs f);
-      bytes = λ k. let t = c.type-inv.registers k in omega arith;
+      bytes = λ k. let t = c.type_inv.registers k in omega arith;
     }

@@ -34,5 +34,5 @@ returns c =
     let ws = c.args.words.now in
     let g = c.loop-item.graph in
     let f = c.loop-item.invariant in
-    let d = lemma.finish ws c.loop-item.at (circuit g) g.clock f c.in-default.ensures.outcome in
+    let d = lemma.finish ws c.loop-item.at (circuit g) g.clock f c.in_default.ensures.outcome in
     record { netlist = f.netlist; spelled = f.file; held = record { graph = d.circuit_is; clock = d.clock_is } }

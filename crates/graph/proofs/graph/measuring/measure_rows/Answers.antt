@@ -8,10 +8,10 @@ period-requires c =
     let n = c.gather-n.result in
     let found = c.gather-n.new.arcs in
     let room : n ≤ length found = let a = c.gather-n.ensures.few in let b = c.requires.sizes.2 in omega arith in
-    let l = length-take-le n found room in (
-      (c.requires.sizes.0, c.requires.sizes.1, (let a = c.gather-n.ensures.few in let b = c.requires.sizes.2 in omega arith)),
-      lemma.within c.args.delays.now c.args.wires.now c.args.registers.now c.requires.sizes.3 c.requires.inside found n c.gather-n.ensures room,
-    )
+    let l = length-take-le n found room in record {
+      sizes = (c.requires.sizes.0, c.requires.sizes.1, (let a = c.gather-n.ensures.few in let b = c.requires.sizes.2 in omega arith));
+      within = lemma.within c.args.delays.now c.args.wires.now c.args.registers.now c.requires.sizes.3 c.requires.inside found n c.gather-n.ensures room;
+    }
 
 pub returns-in-Ok : goal.returns-in-Ok
 returns-in-Ok c =

@@ -6,4 +6,4 @@ pub returns : goal.returns
 returns c =
     let xs = c.args.registers.now in
     let old = get_or xs c.args.wire 0 in
-    record { answer = c.measure-tables.ensures; same = c.drop-held.ensures ∙ set-set xs c.args.wire c.args.n old ∙ set-get_or xs c.args.wire 0 }
+    record { answer = c.measure_tables.ensures; same = c.drop-held.ensures ∙ set-set xs c.args.wire c.args.n old ∙ set-get_or xs c.args.wire 0 }
