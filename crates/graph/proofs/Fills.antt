@@ -1,15 +1,14 @@
 -- A file's graph, record by record: each call is taken, and adds what the record says.
-use Rattle.std.proofs.Common.{◌≡◌, ℕ, zero, suc, ◌+◌, ◌*◌, ◌<◌, ◌≤◌, Bool, true, false, cond, ltb, leb, ◌⊎◌, List, [], ◌∷◌, ◌++◌, map, length, get_or, take, drop, Some, None, Ok, Err, Option, Result, sym, refl, ap, ◌∙◌, subst, inl, inr, add-one, arith}
+use Rattle.std.proofs.Common.{◌≡◌, ℕ, zero, suc, ◌+◌, ◌<◌, ◌≤◌, Bool, true, false, cond, ltb, ◌⊎◌, List, [], ◌∷◌, ◌++◌, map, length, get_or, take, drop, Some, Option, Result, sym, refl, ap, ◌∙◌, subst, inl, inr, add-one, arith}
 use Rattle.std.specs.List.{AllByRecursion}
 use Rattle.std.proofs.lemmas.List.{append-nil, append_assoc, map_push, length-append, length-map, length-take, length-drop}
 use Rattle.std.proofs.lemmas.Bool.{lt-ltb, le-ltb, lt-leb, cond-true, cond-false, or_from}
 use Rattle.words.specs.declared.Kind.{Kind}
 use Rattle.words.specs.declared.Kind.TheVariants.{End, Gate, Wire, Fill, Clock}
 use Rattle.refusals.specs.declared.Refusal.{Refusal}
-use Rattle.refusals.specs.declared.Refusal.TheVariants.{Range, Full, WiresUsed}
 use Rattle.words.specs.declared.reader.Record.{Record}
 use Rattle.words.specs.declared.reader.Record.TheVariants.{Gate as GateRecord, Wire as WireRecord, Clock as ClockRecord}
-use Rattle.words.specs.Layout.{kind_of, gate_word, wire_word, fill_word, clock_word, end_word, delay_of, from_of, to_of}
+use Rattle.words.specs.Layout.{kind_of, gate_word, wire_word, fill_word, clock_word, end_word, to_of}
 use Rattle.words.specs.Netlist.{Wire as Wired, Netlist, Joins, WithinLimits, WireWords, none, alone, filled, Spells, bare, circuit_of}
 use Rattle.words.specs.Records.{is_fill, opens, fills_at, Stretch, StartsAs, gate_in, clock_in, wire_in}
 use Rattle.words.proofs.Both.{trips}
@@ -17,7 +16,7 @@ use Rattle.model.specs.Circuit.{Circuit, gates}
 use Rattle.file.specs.Faults.{is_gate, is_wire, is_clock}
 use Rattle.file.proofs.Files.{body_long}
 use Rattle.file.proofs.Single.{same_fields}
-use Rattle.graph.specs.Calls.{after, gate_answer, with_gate, wire_answer, with_wire, clock_answer, with_clock}
+use Rattle.graph.specs.Calls.{after, gate_answer, with_gate, with_wire, clock_answer, with_clock}
 use Rattle.graph.specs.Loading.{wired, circuit_with, clock_with, words_in}
 use Rattle.graph.proofs.Rows.{wire_passed}
 

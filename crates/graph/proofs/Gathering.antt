@@ -1,10 +1,9 @@
 -- One wire more that is gathered, or passed over.
-use Rattle.std.proofs.Common.{◌≡◌, ℕ, ◌+◌, ◌<◌, ◌≤◌, List, length, get_or, set, sym, refl, ap, ◌∙◌, subst, arith, below_more}
+use Rattle.std.proofs.Common.{◌≡◌, ℕ, ◌+◌, ◌<◌, List, length, get_or, set, sym, subst, arith, below_more}
 use Rattle.std.proofs.lemmas.List.{get_or-set_same, get_or-set_other}
 use Rattle.timing.specs.declared.Arc.{Arc}
 use Rattle.timing.specs.Arcs as arcs
 use Rattle.graph.specs.declared.graph.ends.Ends.{Ends}
-use Rattle.graph.specs.Tables.{nowhere}
 use Rattle.graph.specs.Measures.{Free, Along, Gathered}
 
 module _ (es : List Ends) (rs : List ℕ) (i : ℕ) (found : List Arc) (r : ℕ) (old : Gathered es rs i found r) where

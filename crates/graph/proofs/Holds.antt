@@ -1,14 +1,14 @@
 -- The circuit that a graph holds is sound.
-use Rattle.std.proofs.Common.{◌≡◌, ℕ, ◌+◌, ◌*◌, ◌<◌, ◌≤◌, Bool, true, false, cond, List, [], ◌∷◌, length, get_or, take, Some, None, count_by, Option, sym, refl, ap, ◌∙◌, subst, arith}
+use Rattle.std.proofs.Common.{◌≡◌, ℕ, ◌+◌, ◌*◌, ◌<◌, Bool, true, false, cond, List, [], ◌∷◌, length, get_or, take, Some, None, count_by, Option, sym, refl, ap, ◌∙◌, subst, arith}
 use Rattle.std.proofs.lemmas.List.{length-take-le, get_or-take}
 use Rattle.std.proofs.lemmas.List.Sums.{sum_by-cons}
 use Rattle.model.specs.declared.Wire.{Wire}
-use Rattle.model.specs.Circuit.{Circuit, Sound, Ranged, kept, live, gates, ◌∈◌}
+use Rattle.model.specs.Circuit.{Sound, Ranged, kept, live, gates, ◌∈◌}
 use Rattle.graph.specs.declared.graph.Graph.{Graph}
 use Rattle.graph.specs.declared.graph.ends.Ends.{Ends}
 use Rattle.graph.specs.Tables.{nowhere}
 use Rattle.graph.specs.Reads.{circuit, wire_by, wires_of}
-use Rattle.graph.proofs.Paths.{in_live, wire_at}
+use Rattle.graph.proofs.Paths.{in_live}
 use Rattle.graph.proofs.Rows.{row_length}
 
 pub gates_held : (g : Graph) → gates (circuit g) ≡ g.gates

@@ -1,9 +1,9 @@
 -- Paths of weight 0 and register-free loops are the runs and walks along the gathered arcs.
-use Rattle.std.proofs.Common.{◌≡◌, ℕ, zero, suc, ◌+◌, ◌<◌, ◌≤◌, Bool, true, false, cond, ◌⊎◌, List, [], ◌∷◌, length, get_or, take, Some, None, Ok, Err, Option, Result, sym, refl, ap, ◌∙◌, subst, inl, inr, arith}
+use Rattle.std.proofs.Common.{◌≡◌, ℕ, zero, suc, ◌+◌, ◌<◌, ◌≤◌, Bool, true, false, cond, ◌⊎◌, List, [], ◌∷◌, length, get_or, take, Some, None, Option, sym, refl, ap, ◌∙◌, subst, inl, inr, arith}
 use Rattle.std.proofs.lemmas.List.{length-take-le, get_or-take}
 use Rattle.std.proofs.lemmas.Bool.{cases_Bool}
 use Rattle.model.specs.declared.Wire.{Wire}
-use Rattle.model.specs.Circuit.{Circuit, ◌∈◌, kept, live, gates, delay_of, Inner, Link, Path, gate, step, weight, delay, FreeLoop, NoFreeLoop, Visits, OnFreeLoop, IsPeriod}
+use Rattle.model.specs.Circuit.{Circuit, ◌∈◌, kept, delay_of, Inner, Link, Path, gate, step, weight, delay, FreeLoop, Visits, OnFreeLoop}
 use Rattle.model.proofs.Clock.{starts}
 use Rattle.timing.specs.declared.Arc.{Arc}
 use Rattle.timing.specs.Arcs as arcs
@@ -13,8 +13,8 @@ use Rattle.timing.proofs.Chase.{before}
 use Rattle.refusals.specs.declared.Refusal.TheVariants.{Loop}
 use Rattle.graph.specs.declared.graph.ends.Ends.{Ends}
 use Rattle.graph.specs.Tables.{nowhere, Inside}
-use Rattle.graph.specs.Reads.{wire_by, wire_of, wires_of, circuit_of}
-use Rattle.graph.specs.Measures.{LowestOnLoop, Timed, MeasuredAs, Measured, Free, Along, Gathered}
+use Rattle.graph.specs.Reads.{wire_by, wires_of, circuit_of}
+use Rattle.graph.specs.Measures.{LowestOnLoop, Timed, Free, Gathered}
 
 -- ---- the live wires of two rows
 kept_true : (b : Bool) (w : Wire) (ws : List (Option Wire)) → b ≡ true → kept (cond b (Some w) None ∷ ws) ≡ w ∷ kept ws

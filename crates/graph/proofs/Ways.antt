@@ -1,7 +1,7 @@
 -- Wires forth and back: walks along them are what joins gates.
-use Rattle.std.proofs.Common.{◌≡◌, ℕ, zero, suc, ◌+◌, ◌<◌, ◌≤◌, Bool, true, false, cond, ◌⊎◌, List, [], ◌∷◌, ◌++◌, length, get_or, take, set, Some, None, Ok, Err, sym, refl, ap, ◌∙◌, subst, inl, inr, arith}
+use Rattle.std.proofs.Common.{◌≡◌, ℕ, zero, suc, ◌+◌, ◌<◌, true, false, ◌⊎◌, List, [], ◌∷◌, ◌++◌, length, get_or, take, set, None, sym, refl, ap, ◌∙◌, subst, inl, inr, arith}
 use Rattle.std.proofs.lemmas.List.{take_more, take_more_set, append_assoc, length-set}
-use Rattle.std.proofs.lemmas.Bool.{cases_Bool, cases_eq, cond-true, cond-false}
+use Rattle.std.proofs.lemmas.Bool.{cases_Bool, cond-true, cond-false}
 use Rattle.model.specs.declared.Wire.{Wire}
 use Rattle.model.specs.Circuit.{Circuit, Link}
 use Rattle.timing.specs.declared.Arc.{Arc}
@@ -11,7 +11,7 @@ use Rattle.timing.specs.Marks.{Unreached, Spanned}
 use Rattle.refusals.specs.declared.Refusal.TheVariants.{Apart}
 use Rattle.graph.specs.declared.graph.ends.Ends.{Ends}
 use Rattle.graph.specs.Tables.{nowhere, Inside}
-use Rattle.graph.specs.Reads.{circuit_of, wire_by}
+use Rattle.graph.specs.Reads.{circuit_of}
 use Rattle.graph.specs.Joins.{Joined, itself, along, against, LowestApart, both_ways}
 use Rattle.graph.proofs.Paths.{in_live, live_in, wire_at}
 

@@ -1,5 +1,5 @@
 -- Two graphs that differ in no field are equal: their ghost facts have one proof each.
-use Rattle.std.proofs.Common.{◌≡◌, ℕ, ◌<◌, ◌≤◌, length, get_or}
+use Rattle.std.proofs.Common.{◌≡◌, ◌<◌, ◌≤◌, length, get_or}
 use mathlib.Core.HLevel.{is_prop→PathP}
 use denote.Struct.Props.{props}
 use Rattle.graph.specs.declared.graph.Graph.{Graph}

@@ -1,13 +1,13 @@
 -- The file of a graph's tables, and that it loads as the same graph.
-use Rattle.std.proofs.Common.{◌≡◌, ℕ, suc, ◌+◌, ◌-◌, ◌*◌, ◌<◌, ◌≤◌, Bool, true, false, ◌&&◌, leb, List, [], ◌∷◌, ◌++◌, map, length, get_or, take, drop, Some, None, Ok, Err, Option, Result, sym, refl, ap, ◌∙◌, subst, arith}
+use Rattle.std.proofs.Common.{◌≡◌, ℕ, ◌+◌, ◌-◌, ◌*◌, ◌<◌, ◌≤◌, leb, List, [], ◌∷◌, ◌++◌, map, length, get_or, take, drop, Some, None, Ok, Err, Option, Result, sym, refl, ap, ◌∙◌, subst, arith}
 use Rattle.std.specs.List.{AllByRecursion}
 use Rattle.std.proofs.lemmas.List.{length-append, length-map, length-take-le, length-drop, get_or-take}
 use Rattle.std.proofs.lemmas.Slice.{between_is}
 use Rattle.std.proofs.lemmas.Bool.{and_parts, leb-true}
 use Rattle.model.specs.declared.Wire.{Wire}
-use Rattle.model.specs.Circuit.{Circuit, kept, gates, live}
+use Rattle.model.specs.Circuit.{Circuit, kept, live}
 use Rattle.refusals.specs.declared.LoadRefusal.{LoadRefusal}
-use Rattle.words.specs.Netlist.{Netlist, Joins, circuit_of}
+use Rattle.words.specs.Netlist.{Netlist, Joins}
 use Rattle.words.specs.Layout.{gate_word, clock_word, end_word}
 use Rattle.writer.specs.Writing.{body_of, Tabled, FileIn}
 use Rattle.writer.proofs.Putting.{length_body}
@@ -15,11 +15,11 @@ use Rattle.file.proofs.Single.{one_meaning}
 use Rattle.graph.specs.declared.graph.Graph.{Graph}
 use Rattle.graph.specs.declared.graph.ends.Ends.{Ends}
 use Rattle.graph.specs.Tables.{nowhere, Between, Ticks}
-use Rattle.graph.specs.Reads.{circuit, wires_of}
-use Rattle.graph.specs.Loading.{Loads, LoadsAs}
+use Rattle.graph.specs.Reads.{circuit}
+use Rattle.graph.specs.Loading.{LoadsAs}
 use Rattle.graph.specs.Writing.{netlist_of, needed, Written, Same, Again}
-use Rattle.graph.proofs.Rows.{rows_join, wires_length}
-use Rattle.graph.proofs.Holds.{gates_held, wires_held, rows_even, numbers_held}
+use Rattle.graph.proofs.Rows.{rows_join}
+use Rattle.graph.proofs.Holds.{gates_held, wires_held, numbers_held}
 
 ticks_range : (clock : ℕ) → Ticks (Some clock) → (1 ≤ clock) × (clock < 0x100_0000)
 ticks_range clock e =

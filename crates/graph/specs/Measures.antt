@@ -1,5 +1,5 @@
 -- What measure answers.
-use Rattle.std.specs.Prelude.{◌≡◌, ℕ, ◌<◌, ◌≤◌, true, List, length, get_or, Ok, Err, Result, slice_index_or}
+use Rattle.std.specs.Prelude.{◌≡◌, ℕ, ◌<◌, ◌≤◌, true, List, get_or, Ok, Err, Result, slice_index_or}
 use Rattle.model.specs.Circuit.{Circuit, OnFreeLoop, NoFreeLoop, IsPeriod}
 use Rattle.timing.specs.declared.Arc.{Arc}
 use Rattle.timing.specs.Arcs as arcs

@@ -1,12 +1,10 @@
-use Rattle.std.proofs.Common.{◌≡◌, ℕ, ◌<◌, ◌≤◌, true, false, cond, ltb, List, length, get_or, take, is_some, Ok, Err, Option, Result, sym, refl, ap, ◌∙◌, subst, arith}
-use Rattle.std.proofs.lemmas.Bool.{cond-true, cond-false, lt-ltb, le-ltb, not-true, not-false}
+use Rattle.std.proofs.Common.{ℕ, ◌≤◌, cond, List, length, is_some, Ok, Err, Option, Result, sym, refl, ap, arith}
+use Rattle.std.proofs.lemmas.Bool.{not-true, not-false}
 use Rattle.model.specs.declared.Wire.{Wire}
 use Rattle.refusals.specs.declared.Refusal.{Refusal}
-use Rattle.refusals.specs.declared.Refusal.TheVariants.{Range, NoWire}
-use Rattle.graph.specs.declared.graph.Graph.{Graph}
+use Rattle.refusals.specs.declared.Refusal.TheVariants.{NoWire}
 use Rattle.graph.specs.Reads.{circuit}
-use Rattle.graph.specs.Tables.{nowhere}
-use Rattle.graph.proofs.Rows.{row_length, row_past, row_live, row_dropped, row_set, row_drop}
+use Rattle.graph.proofs.Rows.{row_past, row_live, row_dropped, row_drop}
 use Rattle.graph.proofs.graph.Graph.drop_wire.Goals as goal
 
 abbrev answers : ℕ → Option Wire → Result Unit Refusal

@@ -1,6 +1,5 @@
-use Rattle.std.proofs.Common.{◌≡◌, ℕ, ◌<◌, List, length, take, sym, refl, ap, ◌∙◌, subst, arith, rules}
+use Rattle.std.proofs.Common.{ℕ, ◌<◌, List, length, refl, ap, arith, rules}
 use Rattle.std.proofs.lemmas.List.{take_more_set}
-use Rattle.model.specs.Circuit.{Circuit}
 use Rattle.graph.specs.Reads.{circuit}
 use Rattle.graph.proofs.graph.Graph.gate.Goals as goal
 

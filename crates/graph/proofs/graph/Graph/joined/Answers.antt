@@ -1,4 +1,4 @@
-use Rattle.std.proofs.Common.{◌≡◌, ℕ, ◌≤◌, length, take, None, sym, refl, ap, ◌∙◌, subst, arith}
+use Rattle.std.proofs.Common.{ℕ, take, None, sym, refl, subst, arith}
 use Rattle.timing.specs.Marks.{Spanned, Unreached}
 use Rattle.graph.specs.Joins.{both_ways}
 use Rattle.graph.proofs.Rows.{inside_rows}

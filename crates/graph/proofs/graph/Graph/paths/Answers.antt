@@ -1,6 +1,6 @@
-use Rattle.std.proofs.Common.{◌≡◌, ℕ, ◌+◌, ◌*◌, ◌≤◌, List, length, get_or, take, Some, None, Option, sym, refl, ap, ◌∙◌, subst, mul-le-mul, arith}
+use Rattle.std.proofs.Common.{◌≡◌, ℕ, ◌*◌, ◌≤◌, List, length, get_or, take, None, Option, sym, refl, ap, ◌∙◌, subst, mul-le-mul, arith}
 use Rattle.model.specs.declared.Wire.{Wire}
-use Rattle.model.specs.Circuit.{Circuit, NoFreeLoop}
+use Rattle.model.specs.Circuit.{NoFreeLoop}
 use Rattle.model.specs.Amounts.{Filled}
 use Rattle.paths.specs.Arcs.{registers_of}
 use Rattle.graph.specs.Reads.{circuit}

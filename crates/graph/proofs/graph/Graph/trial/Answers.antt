@@ -1,11 +1,11 @@
-use Rattle.std.proofs.Common.{◌≡◌, ℕ, ◌≤◌, List, length, take, Ok, Err, Option, Result, sym, refl, ap, ◌∙◌, subst, arith}
+use Rattle.std.proofs.Common.{◌≤◌, List, length, take, Err, Option, Result, sym, refl, subst, arith}
 use Rattle.std.proofs.lemmas.Bool.{not-true, not-false}
 use Rattle.model.specs.declared.Wire.{Wire}
 use Rattle.refusals.specs.declared.Refusal.{Refusal}
 use Rattle.refusals.specs.declared.Refusal.TheVariants.{Range, NoWire}
 use Rattle.graph.specs.Reads.{circuit}
 use Rattle.graph.specs.Measures.{Measured}
-use Rattle.graph.specs.Tries.{Tried, TriedAs}
+use Rattle.graph.specs.Tries.{TriedAs}
 use Rattle.graph.proofs.Rows.{row_set, set_past, set_dropped, set_big, set_fits}
 use Rattle.graph.proofs.Whole.{same_graph}
 use Rattle.graph.proofs.graph.Graph.trial.Goals as goal

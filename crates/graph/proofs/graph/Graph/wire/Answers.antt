@@ -1,8 +1,7 @@
-use Rattle.std.proofs.Common.{◌≡◌, ℕ, ◌<◌, ◌≤◌, List, length, take, Ok, Option, Result, sym, refl, ap, ◌∙◌, subst, arith}
+use Rattle.std.proofs.Common.{◌<◌, ◌≤◌, List, length, Ok, Option, sym, refl, ap, ◌∙◌, arith}
 use Rattle.std.proofs.lemmas.List.{length-take-le, length-set}
 use Rattle.std.proofs.lemmas.Bool.{cond-true, cond-false, le-leb, lt-leb}
 use Rattle.model.specs.declared.Wire.{Wire}
-use Rattle.refusals.specs.declared.Refusal.{Refusal}
 use Rattle.graph.specs.Reads.{circuit}
 use Rattle.graph.proofs.Rows.{row_length, row_more, inside_more, ceilings_more, wire_passed}
 use Rattle.graph.proofs.graph.Graph.wire.Goals as goal
@@ -22,11 +21,20 @@ returns-then-self-ge512 c =
       clock = refl;
     }
 
-pub invariant-of-self : goal.invariant-of-self
-invariant-of-self c =
+pub invariant_of-self : goal.invariant_of-self
+invariant_of-self c =
     let s = c.args.self.now in
     let room : s.wired < length s.wires = omega arith in
-    (s.some, (s.small, (omega arith, (s.idle, ((s.long.0, length-set s.wires s.wired _ ∙ s.long.1, length-set s.registers s.wired _ ∙ s.long.2), (inside_more s.wires s.wired s.gates _ room s.inside (omega arith, omega arith, omega arith, omega arith, omega arith), (ceilings_more s.wires s.wired _ room s.capped (omega arith), (s.ticks, tt))))))))
+    record {
+      some = s.some;
+      small = s.small;
+      short = omega arith;
+      idle = s.idle;
+      long = (s.long.0, length-set s.wires s.wired _ ∙ s.long.1, length-set s.registers s.wired _ ∙ s.long.2);
+      inside = inside_more s.wires s.wired s.gates _ room s.inside (omega arith, omega arith, omega arith, omega arith, omega arith);
+      capped = ceilings_more s.wires s.wired _ room s.capped (omega arith);
+      ticks = s.ticks;
+    }
 
 pub returns : goal.returns
 returns c =

@@ -1,4 +1,4 @@
-use Rattle.std.proofs.Common.{◌≡◌, ℕ, take, sym, ap, ◌∙◌, arith}
+use Rattle.std.proofs.Common.{ℕ, take, sym, ap, ◌∙◌, arith}
 use Rattle.graph.proofs.Holds.{numbers_held, wires_held, rows_even, wires_ranged}
 use Rattle.graph.proofs.graph.Graph.wiring.Goals as goal
 

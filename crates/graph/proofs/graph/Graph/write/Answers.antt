@@ -1,4 +1,4 @@
-use Rattle.std.proofs.Common.{◌≡◌, ℕ, ◌+◌, ◌-◌, ◌*◌, ◌≤◌, length, take, Some, None, Option, sym, refl, ap, ◌∙◌, subst, inl, inr, arith}
+use Rattle.std.proofs.Common.{◌≡◌, ℕ, length, take, Some, sym, refl, ap, ◌∙◌, subst, inl, inr, arith}
 use Rattle.graph.specs.Tables.{Ticks}
 use Rattle.graph.specs.Reads.{circuit}
 use Rattle.graph.proofs.Writing as lemma

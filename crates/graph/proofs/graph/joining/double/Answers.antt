@@ -1,7 +1,6 @@
-use Rattle.std.proofs.Common.{◌≡◌, ℕ, ◌+◌, ◌*◌, ◌<◌, ◌≤◌, List, length, get_or, take, set, sym, refl, ap, ◌∙◌, subst, arith}
+use Rattle.std.proofs.Common.{◌≡◌, ℕ, ◌+◌, ◌<◌, List, length, take, sym, ap, ◌∙◌, subst, arith}
 use Rattle.std.proofs.lemmas.List.{take_all}
 use Rattle.timing.specs.declared.Arc.{Arc}
-use Rattle.graph.specs.Tables.{nowhere}
 use Rattle.graph.specs.Joins.{both_ways}
 use Rattle.graph.proofs.Ways as lemma
 use Rattle.graph.proofs.graph.joining.double.Goals as goal

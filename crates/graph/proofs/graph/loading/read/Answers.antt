@@ -1,7 +1,7 @@
-use Rattle.std.proofs.Common.{◌≡◌, ℕ, ◌+◌, ◌-◌, ◌<◌, ◌≤◌, length, Option, sym, refl, ap, ◌∙◌, subst, arith}
+use Rattle.std.proofs.Common.{◌≡◌, ℕ, ◌+◌, Option, sym, subst, arith}
 use Rattle.model.specs.Circuit.{Circuit}
 use Rattle.graph.specs.Reads.{circuit}
-use Rattle.graph.specs.Loading.{words_in, circuit_with, clock_with}
+use Rattle.graph.specs.Loading.{words_in, circuit_with}
 use Rattle.graph.proofs.Fills as lemma
 use Rattle.graph.proofs.Fills.{Filling}
 use Rattle.graph.proofs.graph.loading.read.Goals as goal

@@ -1,8 +1,8 @@
-use Rattle.std.proofs.Common.{◌≡◌, ℕ, ◌+◌, ◌<◌, ◌≤◌, List, length, get_or, set, sym, refl, ap, ◌∙◌, subst, arith}
+use Rattle.std.proofs.Common.{ℕ, ◌+◌, ◌<◌, List, length, get_or, sym, refl, subst, arith}
 use Rattle.std.proofs.lemmas.Bool.{both_ways}
 use Rattle.timing.specs.declared.Arc.{Arc}
 use Rattle.graph.specs.Tables.{nowhere}
-use Rattle.graph.specs.Measures.{Free, Along, Gathered}
+use Rattle.graph.specs.Measures.{Free, Gathered}
 use Rattle.graph.proofs.Gathering as lemma
 use Rattle.graph.proofs.graph.measuring.gather.Goals as goal
 use Rattle.graph.proofs.graph.measuring.gather.Goals.{then-e+then-registers-i-eq0+then-e-ne0+then-e-ne0-2, else-e, else-e-via-then-e+then-registers-i-eq0+then-e-ne0+else-e-ne0-2, else-e-via-then-e+then-registers-i-eq0+else-e-ne0, else-e-via-then-e+else-registers-i-eq0, else-e-via-else-e}
