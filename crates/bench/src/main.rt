@@ -4,9 +4,9 @@
 mod finding;
 mod input;
 
-use word_bytes::read_words;
 use finding::inspect;
 use input::read_input;
+use word_bytes::read_words;
 
 fn main(rt: HostRuntime) -> anyhow::Result<()> {
     let input = read_input(rt)?;

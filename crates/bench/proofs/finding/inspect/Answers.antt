@@ -1,10 +1,8 @@
-use Rattle.std.proofs.Common.{◌≡◌, ℕ, ◌≤◌, true, List, length, is_some, Some, None, Ok, Err, Option, Result, sym, refl, ap, ◌∙◌, subst, inl, inr, arith}
+use Rattle.std.proofs.Common.{◌≡◌, length, is_some, Err, Result, sym, refl, ap, ◌∙◌, subst, inl, inr, arith}
 use Rattle.std.proofs.lemmas.Result.{err_from_is_err_and}
 use Rattle.model.specs.Circuit.{Circuit, gates, live}
 use Rattle.refusals.specs.declared.LoadRefusal.{LoadRefusal}
-use Rattle.words.specs.Netlist.{circuit_of}
 use Rattle.file.proofs.Single.{file_long}
-use Rattle.graph.specs.Reads.{circuit}
 use Rattle.graph.specs.Measures.{Measured}
 use Rattle.graph.specs.Critical.{Critical}
 use Rattle.bench.specs.declared.finding.Finding.{Finding}

@@ -1,4 +1,4 @@
-use Rattle.std.proofs.Common.{◌≡◌, ℕ, ◌+◌, ◌-◌, min, cond, List, ◌++◌, length, take, is_ok, vec_items, vec_len, sym, ap, ◌∙◌, arith}
+use Rattle.std.proofs.Common.{◌≡◌, ℕ, ◌+◌, ◌-◌, min, cond, List, ◌++◌, length, take, is_ok, vec_items, vec_len, ap, ◌∙◌, arith}
 use Rattle.std.proofs.lemmas.List.{length-take}
 use Rattle.bench.proofs.Findings.{where_ok, take_fewer}
 use Rattle.bench.proofs.input.keep.Goals as goal
