@@ -302,8 +302,8 @@ module _ (ws : List ℕ) (at : ℕ) (c : Circuit) (t : Option ℕ) (f : Filling 
       go (done o) = o
 
 -- ---- a record has one word at least, and stands within the words
-in-stretch : (ws : List ℕ) (at k : ℕ) (kind : Kind) (part : List ℕ) (i : ℕ) → 1 ≤ k → Stretch ws at kind k part i → (1 ≤ length part) × (at + length part ≤ length ws)
-in-stretch ws at k kind part i h st =
+in_stretch : (ws : List ℕ) (at k : ℕ) (kind : Kind) (part : List ℕ) (i : ℕ) → 1 ≤ k → Stretch ws at kind k part i → (1 ≤ length part) × (at + length part ≤ length ws)
+in_stretch ws at k kind part i h st =
     let a = ap length st.words ∙ length-take k (drop at ws) in
     let b = length-drop at ws in
     let c = st.within in
@@ -314,6 +314,6 @@ one_or_two true = omega arith
 one_or_two false = omega arith
 
 pub some_words : (ws : List ℕ) (at : ℕ) (item : Record) → StartsAs ws at (Some item) → (1 ≤ words_in item) × (at + words_in item ≤ length ws)
-some_words ws at (GateRecord part i) st = in-stretch ws at 1 Gate part.now i (omega arith) st
-some_words ws at (WireRecord part i) st = in-stretch ws at (cond (fills_at ws (at + 1)) 2 1) Wire part.now i (one_or_two (fills_at ws (at + 1))) st
-some_words ws at (ClockRecord part i) st = in-stretch ws at 1 Clock part.now i (omega arith) st
+some_words ws at (GateRecord part i) st = in_stretch ws at 1 Gate part.now i (omega arith) st
+some_words ws at (WireRecord part i) st = in_stretch ws at (cond (fills_at ws (at + 1)) 2 1) Wire part.now i (one_or_two (fills_at ws (at + 1))) st
+some_words ws at (ClockRecord part i) st = in_stretch ws at 1 Clock part.now i (omega arith) st

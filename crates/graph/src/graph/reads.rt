@@ -24,7 +24,7 @@ impl Graph {
         self.wired
     }
 
-    // The wires by number, none where a number is not given or its wire was dropped; each wire's numbers are in their ranges.
+    // The wires by number, none where a number's wire was dropped; each wire's numbers are in their ranges.
     pub fn wiring(&self) -> [Option<Wire>; 512]
         ensures long { length result ≡ 512 }
         ensures wires { take (length (circuit self.now).wires) result ≡ (circuit self.now).wires }
