@@ -35,7 +35,7 @@ returns c =
     let gs = take c.slowest-len.result c.slowest-len.new.out in
     record {
       outcome = (
-        c.slowest-len.ensures.count,
+        (let a = c.slowest-len.ensures.count in let b = g.small in omega arith),
         subst (λ (ws : List (Option Wire)). Slowest (record { delays = (circuit g).delays; wires = ws }) gs) same c.slowest-len.ensures.slowest,
       );
     }

@@ -13,6 +13,7 @@ pub overflow_mul-cells : goal.overflow_mul-cells
 overflow_mul-cells c =
     let g = c.args.self.now in
     let a : g.gates * g.gates ≤ 128 * 128 = mul-le-mul g.small g.small in
+    let b : g.gates * g.wired ≤ 128 * 512 = mul-le-mul g.small g.short in
     record { fits = omega arith }
 
 pub returns-then-least-cells : goal.returns-then-least-cells

@@ -1,9 +1,6 @@
-use Rattle.std.proofs.Common.{ℕ, take, sym, ap, ◌∙◌, arith}
-use Rattle.graph.proofs.Holds.{numbers_held, wires_held, rows_even, wires_ranged}
+use Rattle.std.proofs.Common.{ℕ, take, sym, ap, ◌∙◌}
+use Rattle.graph.proofs.Holds.{numbers_held, wires_held, wires_ranged}
 use Rattle.graph.proofs.graph.Graph.wiring.Goals as goal
-
-pub listed-requires : goal.listed-requires
-listed-requires c = let g = c.args.self.now in (rows_even g, (let a = wires_held g in let b = g.short in omega arith))
 
 pub returns : goal.returns
 returns c =
