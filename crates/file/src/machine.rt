@@ -90,6 +90,7 @@ impl Seen {
 }
 
 // Whether the words are a file; if not, its first fault.
+#[tactic(auto, using(crate::proofs::Turns::turns))]
 pub fn judge(file: &[u32]) -> Result<(), LoadRefusal>
     ensures { Judged file.now result }
 {
