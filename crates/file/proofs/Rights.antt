@@ -45,22 +45,14 @@ words_up_to b (x ∷ f) = let i = words_up_to (more (kind_of x) b) f in omega ar
 
 -- what is not wrong, part by part
 pub peel : (x y z : Bool) (a s n : LoadRefusal) (o : Option LoadRefusal) → cond x (Some a) (cond y (cond z (Some s) o) (Some n)) ≡ None → (x ≡ false) × (y ≡ true) × (z ≡ false) × (o ≡ None)
-peel true y z a s n o e = absurd (let q : ◌≡◌ {A = ℕ} 0 1 = cc in omega arith)
-peel false true true a s n o e = absurd (let q : ◌≡◌ {A = ℕ} 0 1 = cc in omega arith)
-peel false true false a s n o e = (refl, refl, refl, e)
-peel false false z a s n o e = absurd (let q : ◌≡◌ {A = ℕ} 0 1 = cc in omega arith)
+peel x y z a s n o e = grind arith
 
 pub build : (x y z : Bool) (a s n : LoadRefusal) (o : Option LoadRefusal) → x ≡ false → y ≡ true → z ≡ false → o ≡ None → cond x (Some a) (cond y (cond z (Some s) o) (Some n)) ≡ None
-build true y z a s n o e f g h = absurd (let q : ◌≡◌ {A = ℕ} 0 1 = cc in omega arith)
-build false true true a s n o e f g h = absurd (let q : ◌≡◌ {A = ℕ} 0 1 = cc in omega arith)
-build false true false a s n o e f g h = h
-build false false z a s n o e f g h = absurd (let q : ◌≡◌ {A = ℕ} 0 1 = cc in omega arith)
+build x y z a s n o e f g h = grind arith
 
 -- what bars a word is wrong with it
 barred_as : (x y : Bool) (a n f : Refusal) (o : Option LoadRefusal) → Some f ≡ cond x (Some a) (cond y None (Some n)) → Some (Call f) ≡ cond x (Some (Call a)) (cond y o (Some (Call n)))
-barred_as true y a n f o e = grind arith
-barred_as false true a n f o e = grind arith
-barred_as false false a n f o e = grind arith
+barred_as x y a n f o e = grind arith
 
 pub barred_wrong : (b : Before) (w : ℕ) (k : Kind) (f : Refusal) → k ≡ kind_of w → Some f ≡ barred b k → Some (Call f) ≡ wrong b w
 barred_wrong b w k f h e = barred_as (is_end b.last) (may_follow b.last (kind_of w)) _ _ f _ (e ∙ ap (barred b) h)
@@ -76,8 +68,7 @@ one b w k ws p e f g r =
 
 -- ---- what stands before a word, counted and step by step
 counted_on : (t : Bool) (n : ℕ) → cond t (n + 1) n ≡ n + cond t 1 0
-counted_on true n = refl
-counted_on false n = omega arith
+counted_on t n = grind arith
 
 last_up_to : (b : Before) (f : List ℕ) → (up_to b f).last ≡ last_kind b.last f
 last_up_to b [] = refl

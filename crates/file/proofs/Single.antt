@@ -61,9 +61,9 @@ Past (w ∷ ws) = 0x2000_0000 ≤ w
 
 gates_same : (ds es : List ℕ) (r t : List ℕ) → AllByRecursion (λ d. d < 0x1_0000) ds → AllByRecursion (λ d. d < 0x1_0000) es → Past r → Past t → map gate_word ds ++ r ≡ map gate_word es ++ t → (ds ≡ es) × (r ≡ t)
 gates_same [] [] r t h k p q e = (refl, e)
-gates_same [] (x ∷ es) [] t h k p q e = absurd (let z : ◌≡◌ {A = ℕ} 0 1 = cc in omega arith)
+gates_same [] (x ∷ es) [] t h k p q e = grind arith
 gates_same [] (x ∷ es) (w ∷ r) t h k p q e = absurd (let z : w ≡ gate_word x = cc in let y = k.0 in omega arith)
-gates_same (d ∷ ds) [] r [] h k p q e = absurd (let z : ◌≡◌ {A = ℕ} 0 1 = cc in omega arith)
+gates_same (d ∷ ds) [] r [] h k p q e = grind arith
 gates_same (d ∷ ds) [] r (w ∷ t) h k p q e = absurd (let z : gate_word d ≡ w = cc in let y = h.0 in omega arith)
 gates_same (d ∷ ds) (x ∷ es) r t h k p q e =
     let a : gate_word d ≡ gate_word x = cc in
@@ -194,7 +194,7 @@ placed_one true f g o n p r e = ap load_place_of (sym (some_same e)) ∙ p
 placed_one false f g o n p r e = r e
 
 placed_none : (f : LoadRefusal) (n : ℕ) → ◌≡◌ {A = Option LoadRefusal} None (Some f) → load_place_of f ≡ n
-placed_none f n e = absurd (let q : ◌≡◌ {A = ℕ} 0 1 = cc in omega arith)
+placed_none f n e = grind arith
 
 placed_else : (b : Bool) (f g : LoadRefusal) (o : Option LoadRefusal) (n : ℕ) → load_place_of g ≡ n → (o ≡ Some f → load_place_of f ≡ n) → cond b o (Some g) ≡ Some f → load_place_of f ≡ n
 placed_else true f g o n p r e = r e

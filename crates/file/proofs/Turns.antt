@@ -83,10 +83,10 @@ module _ (ws : List ℕ) (i : ℕ) (s : Seen) (h : length ws ≤ i) (c : Come ws
   finished e = record { outcome = right_spells ws all (sym last ∙ ap (λ (x : State). last_of x s.unfilled) e) }
 
   not_ended : (x : State) (u : Bool) → (x ≡ Ended → ⊥) → last_of x u ≡ End → ⊥
-  not_ended Gates u f e = let z : ◌≡◌ {A = ℕ} 0 1 = cc in omega arith
-  not_ended Wires true f e = let z : ◌≡◌ {A = ℕ} 0 1 = cc in omega arith
-  not_ended Wires false f e = let z : ◌≡◌ {A = ℕ} 0 1 = cc in omega arith
-  not_ended Clocked u f e = let z : ◌≡◌ {A = ℕ} 0 1 = cc in omega arith
+  not_ended Gates u f e = grind arith
+  not_ended Wires true f e = grind arith
+  not_ended Wires false f e = grind arith
+  not_ended Clocked u f e = grind arith
   not_ended Ended u f e = f refl
 
   pub unfinished : (s.state ≡ Ended → ⊥) → Judged ws (Err (Call (BadEnd s.words)))
