@@ -92,13 +92,11 @@ wires_up_to b (x ∷ f) =
 
 pub reached_is : (f : List ℕ) → reached f ≡ before f
 reached_is f =
-    let g : (reached f).gates ≡ (before f).gates = let h = gates_up_to start f in omega arith in
-    let w : (reached f).wires ≡ (before f).wires = let h = wires_up_to start f in omega arith in
-    let n : (reached f).words ≡ length f = let h = words_up_to start f in omega arith in
-    ap (λ (x : Kind). record { last = x; gates = (reached f).gates; wires = (reached f).wires; words = (reached f).words }) (last_up_to start f)
-    ∙ ap (λ (x : ℕ). record { last = (before f).last; gates = x; wires = (reached f).wires; words = (reached f).words }) g
-    ∙ ap (λ (x : ℕ). record { last = (before f).last; gates = (before f).gates; wires = x; words = (reached f).words }) w
-    ∙ ap (λ (x : ℕ). record { last = (before f).last; gates = (before f).gates; wires = (before f).wires; words = x }) n
+    let l = last_up_to start f in
+    let g = gates_up_to start f in
+    let w = wires_up_to start f in
+    let n = words_up_to start f in
+    grind arith
 
 pub wrong_is : (f : List ℕ) (w : ℕ) → wrong (reached f) w ≡ wrong (before f) w
 wrong_is f w = ap (λ (b : Before). wrong b w) (reached_is f)

@@ -1,14 +1,13 @@
 -- Right words are the front of a file.
-use Rattle.std.proofs.Common.{◌≡◌, ℕ, ◌+◌, ◌<◌, ◌≤◌, Bool, true, false, cond, not, eqb, ltb, leb, List, [], ◌∷◌, ◌++◌, map, length, Some, None, Option, sym, refl, ap, ◌∙◌, subst, arith}
+use Rattle.std.proofs.Common.{◌≡◌, ℕ, ◌+◌, ◌<◌, ◌≤◌, true, List, [], ◌∷◌, ◌++◌, map, length, None, sym, refl, ap, ◌∙◌, subst, arith}
 use Rattle.std.specs.List.{AllByRecursion}
 use Rattle.std.proofs.lemmas.List.{append-nil, append_assoc, length-append, length-map, map_push, length_push}
-use Rattle.std.proofs.lemmas.Bool.{leb-false, ltb-false, eqb-false, eqb-true, false≢true, not-false}
+use Rattle.std.proofs.lemmas.Bool.{false≢true}
 use Rattle.words.specs.declared.Kind.{Kind}
-use Rattle.words.specs.declared.Kind.TheVariants.{End, Gate, Wire, Fill, Clock, Cost, Label, Refused, Limited, Other}
+use Rattle.words.specs.declared.Kind.TheVariants.{End, Gate, Wire, Fill, Clock, Other}
 use Rattle.words.specs.Layout.{kind_of, stray, gate_word, wire_word, fill_word, clock_word, delay_of, from_of, to_of, price_of, registers_of, floor_of, ceiling_of, clock_of, count_of}
 use Rattle.words.specs.Trips.{Plain}
 use Rattle.words.proofs.Both.{trips}
-use Rattle.refusals.specs.declared.LoadRefusal.{LoadRefusal}
 use Rattle.words.specs.Netlist.{Wire as Wired, Netlist, Joins, WireWords, none, alone, filled, Spells, Begins, bare}
 use Rattle.file.specs.Faults.{Before, may_follow, is_end, called, wrong}
 use Rattle.file.specs.Stepping.{start, more, up_to}
@@ -185,12 +184,6 @@ pub record Part (f : List ℕ) (b : Before) : Type 0 where
   pub part : PartAs b.last f b.gates b.wires
   pub counted : b.words ≡ length f
 
-none_of : (b : Bool) (y : LoadRefusal) → cond b (Some y) None ≡ None → b ≡ false
-none_of b y e = grind arith
-
-then_none : (b : Bool) (y : LoadRefusal) (o : Option LoadRefusal) → cond b (Some y) o ≡ None → (b ≡ false) × (o ≡ None)
-then_none b y o e = grind arith
-
 -- no other kind follows any
 none_follows : (l : Kind) → may_follow l Other ≡ true → ⊥
 none_follows End e = false≢true e
@@ -203,9 +196,6 @@ next_as Gate f b w p h m c =
     let r = row_gate f b.gates w (subst (λ (x : ℕ). Row f b.gates x) q.1 q.0) h l in
     (subst (λ (x : ℕ). Row (f ++ w ∷ []) (b.gates + 1) x) (sym q.1) r, q.1)
 next_as Wire f b w p h m c =
-    let x = then_none (ltb b.gates (from_of w)) _ _ c in
-    let y = then_none (ltb b.gates (to_of w)) _ _ x.1 in
-    let z = none_of (leb 512 b.wires) _ y.1 in
     record {
       front = f;
       earlier = b.wires;
@@ -213,25 +203,25 @@ next_as Wire f b w p h m c =
       to = to_of w;
       row = for_wire b.last f b.gates b.wires p.part m;
       counted = refl;
-      room = leb-false 512 b.wires z;
-      starts = ltb-false b.gates (from_of w) x.0;
-      ends = ltb-false b.gates (to_of w) y.0;
+      room = grind arith;
+      starts = grind arith;
+      ends = grind arith;
       whole = ap (λ (u : ℕ). f ++ u ∷ []) (sym (trips.wire_back w h));
     }
 next_as Fill f b w p h m c =
-    fill_row f b.gates b.wires w (for_fill b.last f b.gates b.wires p.part m) h (ltb-false (ceiling_of w) (floor_of w) (none_of (ltb (ceiling_of w) (floor_of w)) _ c))
+    fill_row f b.gates b.wires w (for_fill b.last f b.gates b.wires p.part m) h (grind arith)
 next_as Clock f b w p h m c =
-    let z = eqb-false (clock_of w) 0 (none_of (eqb (clock_of w) 0) _ c) in
+    let z : 1 ≤ clock_of w = grind arith in
     record {
       front = f;
       clock = clock_of w;
       row = for_clock b.last f b.gates b.wires p.part m;
-      ticks = omega arith;
+      ticks = z;
       limit = omega arith;
       whole = ap (λ (u : ℕ). f ++ u ∷ []) (sym (trips.clock_back w h));
     }
 next_as End f b w p h m c =
-    let z = eqb-true (count_of w) b.words (not-false _ (none_of (not (eqb (count_of w) b.words)) _ c)) in
+    let z : count_of w ≡ b.words = grind arith in
     ends f b.gates b.wires w (for_end b.last f b.gates b.wires p.part m) (sym (trips.end_back w h) ∙ z ∙ p.counted)
 next_as k f b w p h m c = absurd (none_follows b.last m)
 

@@ -1,5 +1,5 @@
 -- The turns of the loop over a file's words, and its ends.
-use Rattle.std.proofs.Common.{◌≡◌, ℕ, ◌+◌, ◌<◌, ◌≤◌, Bool, true, false, List, [], ◌∷◌, ◌++◌, map, length, get_or, take, Some, None, Ok, Err, sym, refl, ap, ◌∙◌, subst, arith}
+use Rattle.std.proofs.Common.{◌≡◌, ℕ, ◌+◌, ◌<◌, ◌≤◌, Bool, List, [], ◌∷◌, ◌++◌, map, length, get_or, take, Some, None, Ok, Err, sym, refl, ap, ◌∙◌, subst, arith}
 use Rattle.std.proofs.lemmas.List.{append_assoc, take_more, take_all, length-take-le}
 use Rattle.words.specs.declared.Kind.{Kind}
 use Rattle.words.specs.declared.Kind.TheVariants.{End}
@@ -10,7 +10,7 @@ use Rattle.refusals.specs.declared.LoadRefusal.{LoadRefusal}
 use Rattle.refusals.specs.declared.LoadRefusal.TheVariants.{Call}
 use Rattle.file.specs.declared.machine.Seen.{Seen}
 use Rattle.file.specs.declared.machine.State.{State}
-use Rattle.file.specs.declared.machine.State.TheVariants.{Gates, Wires, Clock as Clocked, End as Ended}
+use Rattle.file.specs.declared.machine.State.TheVariants.{End as Ended}
 use Rattle.words.specs.Netlist.{Netlist, Spells}
 use Rattle.file.specs.Faults.{Before, wrong, word, missing, Judged}
 use Rattle.file.specs.Stepping.{start, more, up_to}
@@ -83,11 +83,8 @@ module _ (ws : List ℕ) (i : ℕ) (s : Seen) (h : length ws ≤ i) (c : Come ws
   finished e = record { outcome = right_spells ws all (sym last ∙ ap (λ (x : State). last_of x s.unfilled) e) }
 
   not_ended : (x : State) (u : Bool) → (x ≡ Ended → ⊥) → last_of x u ≡ End → ⊥
-  not_ended Gates u f e = grind arith
-  not_ended Wires true f e = grind arith
-  not_ended Wires false f e = grind arith
-  not_ended Clocked u f e = grind arith
   not_ended Ended u f e = f refl
+  not_ended x u f e = grind arith
 
   pub unfinished : (s.state ≡ Ended → ⊥) → Judged ws (Err (Call (BadEnd s.words)))
   unfinished f = rw all_words (record { outcome = missing (right_begins ws all) (λ t p. not_ended s.state s.unfilled f (last ∙ file_ends ws t p)) })

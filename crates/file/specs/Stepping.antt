@@ -1,5 +1,5 @@
 -- What a step of the machine gives.
-use Rattle.std.specs.Prelude.{ℕ, ◌+◌, Bool, cond, ◌||◌, List, [], ◌∷◌, Some, None, Option}
+use Rattle.std.specs.Prelude.{ℕ, ◌+◌, Bool, cond, List, [], ◌∷◌, Some, None, Option}
 use Rattle.words.specs.declared.Kind.{Kind}
 use Rattle.words.specs.declared.Kind.TheVariants.{End, Gate, Wire, Fill, Clock}
 use Rattle.words.specs.Layout.{kind_of}
@@ -8,7 +8,7 @@ use Rattle.refusals.specs.declared.Refusal.TheVariants.{AfterEnd, NotNext}
 use Rattle.file.specs.declared.machine.State.{State}
 use Rattle.file.specs.declared.machine.State.TheVariants.{Gates, Wires, Clock as Clocked, End as Ended}
 use Rattle.file.specs.declared.machine.Seen.{Seen}
-use Rattle.file.specs.Faults.{Before, is_gate, is_wire, is_fill, is_clock, is_end, may_follow}
+use Rattle.file.specs.Faults.{Before, is_gate, is_wire, is_end, may_follow}
 
 -- at the start
 abbrev pub start : Before
@@ -32,8 +32,13 @@ last_of Ended unfilled = End
 abbrev pub shown : Seen → Before
 shown s = record { last = last_of s.state s.unfilled; gates = s.gates; wires = s.wires; words = s.words }
 
+-- the state after a word of the kind
 abbrev pub state_of : Kind → State
-state_of k = cond (is_gate k) Gates (cond (is_wire k || is_fill k) Wires (cond (is_clock k) Clocked Ended))
+state_of Gate = Gates
+state_of Wire = Wires
+state_of Fill = Wires
+state_of Clock = Clocked
+state_of k = Ended
 
 -- why a word of the kind may not stand next
 abbrev pub barred : Before → Kind → Option Refusal
