@@ -1,5 +1,5 @@
 -- Between two gates that a path joins, the lightest path has at most 255 registers for each gate of the circuit.
-use Rattle.std.proofs.Common.{◌≡◌, ℕ, ◌*◌, ◌<◌, ◌≤◌, List, [], ◌∷◌, length, sym, subst, inl, inr, arith}
+use Rattle.std.proofs.Common.{◌≡◌, ℕ, ◌*◌, ◌≤◌, List, [], ◌∷◌, length, sym, subst, inl, inr, arith}
 use native.Mathlib.Decide.{ℕ_discrete}
 use Rattle.model.specs.Circuit.{Wire, Circuit, live, gates, ◌∈◌, Path, gate, step, weight, IsW}
 use Rattle.model.specs.Limits.{Different}
