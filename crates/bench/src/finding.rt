@@ -23,17 +23,13 @@ impl fmt::Display for Finding {
         writeln!(f, "wires {wires}")?;
         writeln!(f, "clock {clock}")?;
         match &self.period {
-            Ok(period) if *period <= clock => {
-                write!(
-                    f,
-                    "period {period}\nthe clock is met as the registers stand"
-                )?;
-            }
             Ok(period) => {
-                write!(
-                    f,
-                    "period {period}\nthe clock is not met as the registers stand"
-                )?;
+                let met = if *period <= clock {
+                    "is met"
+                } else {
+                    "is not met"
+                };
+                write!(f, "period {period}\nthe clock {met} as the registers stand")?;
             }
             Err(refusal) => write!(f, "no period: {refusal}")?,
         }
@@ -51,7 +47,7 @@ pub fn inspect(words: &[u32], spare: bool) -> Result<Finding, LoadRefusal>
     let mut graph = Graph::new();
     graph.load(words)?;
     if spare {
-        return Err(LoadRefusal::Call(Refusal::BadEnd(words.len() as u32)));
+        return Err(Refusal::BadEnd(words.len() as u32).into());
     }
     Ok(Finding {
         gates: graph.gates(),

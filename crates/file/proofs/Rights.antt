@@ -1,12 +1,14 @@
 -- Words of which none is wrong after those before it.
-use Rattle.std.proofs.Common.{◌≡◌, ℕ, zero, suc, ◌+◌, ◌<◌, ◌≤◌, Bool, true, false, cond, List, [], ◌∷◌, ◌++◌, length, get_or, take, Some, None, count_by, Option, sym, refl, ap, ◌∙◌, subst, arith}
+use Rattle.std.proofs.Common.{◌≡◌, ℕ, zero, suc, ◌+◌, ◌<◌, Bool, true, false, cond, List, [], ◌∷◌, ◌++◌, length, get_or, take, Some, None, count_by, Option, sym, refl, ap, ◌∙◌, subst, arith}
 use Rattle.std.proofs.lemmas.List.Sums.{sum_by-cons}
 use Rattle.words.specs.declared.Kind.{Kind}
 use Rattle.words.specs.Layout.{kind_of, stray}
 use Rattle.words.specs.Trips.{Plain}
+use Rattle.refusals.specs.declared.Refusal.{Refusal}
 use Rattle.refusals.specs.declared.LoadRefusal.{LoadRefusal}
+use Rattle.refusals.specs.declared.LoadRefusal.TheVariants.{Call}
 use Rattle.file.specs.Faults.{last_kind, is_gate, is_wire, Before, before, may_follow, is_end, called, wrong}
-use Rattle.file.specs.Stepping.{start, more, up_to}
+use Rattle.file.specs.Stepping.{start, more, up_to, barred}
 
 abbrev pub reached : List ℕ → Before
 reached f = up_to start f
@@ -36,39 +38,24 @@ right_at b [] k h r = absurd (omega arith)
 right_at b (x ∷ ws) zero h r = r.0
 right_at b (x ∷ ws) (suc k) h r = right_at (more (kind_of x) b) ws k (omega arith) r.1
 
--- how many words, and no more gates or wires than words
+-- how many words
 pub words_up_to : (b : Before) (f : List ℕ) → (up_to b f).words ≡ b.words + length f
 words_up_to b [] = omega arith
 words_up_to b (x ∷ f) = let i = words_up_to (more (kind_of x) b) f in omega arith
 
-abbrev pub Few : Before → Type 0
-Few b = (b.gates ≤ b.words) × (b.wires ≤ b.words)
-
-one_more : (t : Bool) (n m : ℕ) → n ≤ m → cond t (n + 1) n ≤ m + 1
-one_more true n m h = omega arith
-one_more false n m h = omega arith
-
-pub few_more : (k : Kind) (b : Before) → Few b → Few (more k b)
-few_more k b h = (one_more (is_gate k) b.gates b.words h.0, one_more (is_wire k) b.wires b.words h.1)
-
 -- what is not wrong, part by part
 pub peel : (x y z : Bool) (a s n : LoadRefusal) (o : Option LoadRefusal) → cond x (Some a) (cond y (cond z (Some s) o) (Some n)) ≡ None → (x ≡ false) × (y ≡ true) × (z ≡ false) × (o ≡ None)
-peel true y z a s n o e = absurd (let q : ◌≡◌ {A = ℕ} 0 1 = cc in omega arith)
-peel false true true a s n o e = absurd (let q : ◌≡◌ {A = ℕ} 0 1 = cc in omega arith)
-peel false true false a s n o e = (refl, refl, refl, e)
-peel false false z a s n o e = absurd (let q : ◌≡◌ {A = ℕ} 0 1 = cc in omega arith)
+peel x y z a s n o e = grind arith
 
 pub build : (x y z : Bool) (a s n : LoadRefusal) (o : Option LoadRefusal) → x ≡ false → y ≡ true → z ≡ false → o ≡ None → cond x (Some a) (cond y (cond z (Some s) o) (Some n)) ≡ None
-build true y z a s n o e f g h = absurd (let q : ◌≡◌ {A = ℕ} 0 1 = cc in omega arith)
-build false true true a s n o e f g h = absurd (let q : ◌≡◌ {A = ℕ} 0 1 = cc in omega arith)
-build false true false a s n o e f g h = h
-build false false z a s n o e f g h = absurd (let q : ◌≡◌ {A = ℕ} 0 1 = cc in omega arith)
+build x y z a s n o e f g h = grind arith
 
 -- what bars a word is wrong with it
-pub barred_wrong : (x y : Bool) (a n f : LoadRefusal) (o : Option LoadRefusal) → cond x (Some a) (cond y None (Some n)) ≡ Some f → cond x (Some a) (cond y o (Some n)) ≡ Some f
-barred_wrong true y a n f o e = e
-barred_wrong false true a n f o e = absurd (let q : ◌≡◌ {A = ℕ} 0 1 = cc in omega arith)
-barred_wrong false false a n f o e = e
+barred_as : (x y : Bool) (a n f : Refusal) (o : Option LoadRefusal) → Some f ≡ cond x (Some a) (cond y None (Some n)) → Some (Call f) ≡ cond x (Some (Call a)) (cond y o (Some (Call n)))
+barred_as x y a n f o e = grind arith
+
+pub barred_wrong : (b : Before) (w : ℕ) (k : Kind) (f : Refusal) → k ≡ kind_of w → Some f ≡ barred b k → Some (Call f) ≡ wrong b w
+barred_wrong b w k f h e = barred_as (is_end b.last) (may_follow b.last (kind_of w)) _ _ f _ (e ∙ ap (barred b) h)
 
 -- a right word of a kind in front
 pub one : (b : Before) (w : ℕ) (k : Kind) (ws : List ℕ) → Plain k w → is_end b.last ≡ false → may_follow b.last k ≡ true → called k b w ≡ None → Right (more k b) ws → Right b (w ∷ ws)
@@ -81,8 +68,7 @@ one b w k ws p e f g r =
 
 -- ---- what stands before a word, counted and step by step
 counted_on : (t : Bool) (n : ℕ) → cond t (n + 1) n ≡ n + cond t 1 0
-counted_on true n = refl
-counted_on false n = omega arith
+counted_on t n = grind arith
 
 last_up_to : (b : Before) (f : List ℕ) → (up_to b f).last ≡ last_kind b.last f
 last_up_to b [] = refl
@@ -106,13 +92,11 @@ wires_up_to b (x ∷ f) =
 
 pub reached_is : (f : List ℕ) → reached f ≡ before f
 reached_is f =
-    let g : (reached f).gates ≡ (before f).gates = let h = gates_up_to start f in omega arith in
-    let w : (reached f).wires ≡ (before f).wires = let h = wires_up_to start f in omega arith in
-    let n : (reached f).words ≡ length f = let h = words_up_to start f in omega arith in
-    ap (λ (x : Kind). record { last = x; gates = (reached f).gates; wires = (reached f).wires; words = (reached f).words }) (last_up_to start f)
-    ∙ ap (λ (x : ℕ). record { last = (before f).last; gates = x; wires = (reached f).wires; words = (reached f).words }) g
-    ∙ ap (λ (x : ℕ). record { last = (before f).last; gates = (before f).gates; wires = x; words = (reached f).words }) w
-    ∙ ap (λ (x : ℕ). record { last = (before f).last; gates = (before f).gates; wires = (before f).wires; words = x }) n
+    let l = last_up_to start f in
+    let g = gates_up_to start f in
+    let w = wires_up_to start f in
+    let n = words_up_to start f in
+    grind arith
 
 pub wrong_is : (f : List ℕ) (w : ℕ) → wrong (reached f) w ≡ wrong (before f) w
 wrong_is f w = ap (λ (b : Before). wrong b w) (reached_is f)

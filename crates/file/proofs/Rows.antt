@@ -1,14 +1,13 @@
 -- Right words are the front of a file.
-use Rattle.std.proofs.Common.{◌≡◌, ℕ, ◌+◌, ◌<◌, ◌≤◌, Bool, true, false, cond, not, eqb, ltb, leb, List, [], ◌∷◌, ◌++◌, map, length, Some, None, Option, sym, refl, ap, ◌∙◌, subst, arith}
+use Rattle.std.proofs.Common.{◌≡◌, ℕ, ◌+◌, ◌<◌, ◌≤◌, true, List, [], ◌∷◌, ◌++◌, map, length, None, sym, refl, ap, ◌∙◌, subst, arith}
 use Rattle.std.specs.List.{AllByRecursion}
 use Rattle.std.proofs.lemmas.List.{append-nil, append_assoc, length-append, length-map, map_push, length_push}
-use Rattle.std.proofs.lemmas.Bool.{leb-false, ltb-false, eqb-false, eqb-true, false≢true, not-false}
+use Rattle.std.proofs.lemmas.Bool.{false≢true}
 use Rattle.words.specs.declared.Kind.{Kind}
-use Rattle.words.specs.declared.Kind.TheVariants.{End, Gate, Wire, Fill, Clock, Cost, Label, Refused, Limited, Other}
+use Rattle.words.specs.declared.Kind.TheVariants.{End, Gate, Wire, Fill, Clock, Other}
 use Rattle.words.specs.Layout.{kind_of, stray, gate_word, wire_word, fill_word, clock_word, delay_of, from_of, to_of, price_of, registers_of, floor_of, ceiling_of, clock_of, count_of}
 use Rattle.words.specs.Trips.{Plain}
 use Rattle.words.proofs.Both.{trips}
-use Rattle.refusals.specs.declared.LoadRefusal.{LoadRefusal}
 use Rattle.words.specs.Netlist.{Wire as Wired, Netlist, Joins, WireWords, none, alone, filled, Spells, Begins, bare}
 use Rattle.file.specs.Faults.{Before, may_follow, is_end, called, wrong}
 use Rattle.file.specs.Stepping.{start, more, up_to}
@@ -108,11 +107,7 @@ PartAs Wire f g n = WireLast f g n
 PartAs Fill f g n = Row f g n
 PartAs Clock f g n = ClockLast f g n
 PartAs End f g n = (s : Netlist) × Spells f s
-PartAs Cost f g n = ⊥
-PartAs Label f g n = ⊥
-PartAs Refused f g n = ⊥
-PartAs Limited f g n = ⊥
-PartAs Other f g n = ⊥
+PartAs k f g n = ⊥
 
 bare_joins : (g from to : ℕ) → from ≤ g → to ≤ g → Joins g (bare from to)
 bare_joins g from to h k = record { from = h; to = k; registers = omega arith; cheap = omega arith; priced = omega arith; ordered = omega arith; ceiling = omega arith }
@@ -163,99 +158,44 @@ ends f g n w l e = (
 -- what may stand next, and what the words then are
 for_gate : (l : Kind) (f : List ℕ) (g n : ℕ) → PartAs l f g n → may_follow l Gate ≡ true → Row f g n × (n ≡ 0)
 for_gate Gate f g n p e = p
-for_gate Wire f g n p e = absurd (false≢true e)
-for_gate Fill f g n p e = absurd (false≢true e)
-for_gate Clock f g n p e = absurd (false≢true e)
-for_gate End f g n p e = absurd (false≢true e)
-for_gate Cost f g n p e = absurd (false≢true e)
-for_gate Label f g n p e = absurd (false≢true e)
-for_gate Refused f g n p e = absurd (false≢true e)
-for_gate Limited f g n p e = absurd (false≢true e)
-for_gate Other f g n p e = absurd (false≢true e)
+for_gate l f g n p e = absurd (false≢true e)
 
 for_wire : (l : Kind) (f : List ℕ) (g n : ℕ) → PartAs l f g n → may_follow l Wire ≡ true → Row f g n
 for_wire Gate f g n p e = p.0
 for_wire Wire f g n p e = wire_row f g n p
 for_wire Fill f g n p e = p
-for_wire Clock f g n p e = absurd (false≢true e)
-for_wire End f g n p e = absurd (false≢true e)
-for_wire Cost f g n p e = absurd (false≢true e)
-for_wire Label f g n p e = absurd (false≢true e)
-for_wire Refused f g n p e = absurd (false≢true e)
-for_wire Limited f g n p e = absurd (false≢true e)
-for_wire Other f g n p e = absurd (false≢true e)
+for_wire l f g n p e = absurd (false≢true e)
 
 for_clock : (l : Kind) (f : List ℕ) (g n : ℕ) → PartAs l f g n → may_follow l Clock ≡ true → Row f g n
 for_clock Gate f g n p e = p.0
 for_clock Wire f g n p e = wire_row f g n p
 for_clock Fill f g n p e = p
-for_clock Clock f g n p e = absurd (false≢true e)
-for_clock End f g n p e = absurd (false≢true e)
-for_clock Cost f g n p e = absurd (false≢true e)
-for_clock Label f g n p e = absurd (false≢true e)
-for_clock Refused f g n p e = absurd (false≢true e)
-for_clock Limited f g n p e = absurd (false≢true e)
-for_clock Other f g n p e = absurd (false≢true e)
+for_clock l f g n p e = absurd (false≢true e)
 
 for_fill : (l : Kind) (f : List ℕ) (g n : ℕ) → PartAs l f g n → may_follow l Fill ≡ true → WireLast f g n
-for_fill Gate f g n p e = absurd (false≢true e)
 for_fill Wire f g n p e = p
-for_fill Fill f g n p e = absurd (false≢true e)
-for_fill Clock f g n p e = absurd (false≢true e)
-for_fill End f g n p e = absurd (false≢true e)
-for_fill Cost f g n p e = absurd (false≢true e)
-for_fill Label f g n p e = absurd (false≢true e)
-for_fill Refused f g n p e = absurd (false≢true e)
-for_fill Limited f g n p e = absurd (false≢true e)
-for_fill Other f g n p e = absurd (false≢true e)
+for_fill l f g n p e = absurd (false≢true e)
 
 for_end : (l : Kind) (f : List ℕ) (g n : ℕ) → PartAs l f g n → may_follow l End ≡ true → ClockLast f g n
-for_end Gate f g n p e = absurd (false≢true e)
-for_end Wire f g n p e = absurd (false≢true e)
-for_end Fill f g n p e = absurd (false≢true e)
 for_end Clock f g n p e = p
-for_end End f g n p e = absurd (false≢true e)
-for_end Cost f g n p e = absurd (false≢true e)
-for_end Label f g n p e = absurd (false≢true e)
-for_end Refused f g n p e = absurd (false≢true e)
-for_end Limited f g n p e = absurd (false≢true e)
-for_end Other f g n p e = absurd (false≢true e)
+for_end l f g n p e = absurd (false≢true e)
 
 pub record Part (f : List ℕ) (b : Before) : Type 0 where
   pub part : PartAs b.last f b.gates b.wires
   pub counted : b.words ≡ length f
 
-none_of : (b : Bool) (y : LoadRefusal) → cond b (Some y) None ≡ None → b ≡ false
-none_of true y e = absurd (let q : ◌≡◌ {A = ℕ} 0 1 = cc in omega arith)
-none_of false y e = refl
-
-then_none : (b : Bool) (y : LoadRefusal) (o : Option LoadRefusal) → cond b (Some y) o ≡ None → (b ≡ false) × (o ≡ None)
-then_none true y o e = absurd (let q : ◌≡◌ {A = ℕ} 0 1 = cc in omega arith)
-then_none false y o e = (refl, e)
-
 -- no other kind follows any
 none_follows : (l : Kind) → may_follow l Other ≡ true → ⊥
 none_follows End e = false≢true e
-none_follows Gate e = false≢true e
-none_follows Wire e = false≢true e
-none_follows Fill e = false≢true e
-none_follows Clock e = false≢true e
-none_follows Cost e = false≢true e
-none_follows Label e = false≢true e
-none_follows Refused e = false≢true e
-none_follows Limited e = false≢true e
-none_follows Other e = false≢true e
+none_follows l e = false≢true e
 
 next_as : (k : Kind) (f : List ℕ) (b : Before) (w : ℕ) → Part f b → Plain k w → may_follow b.last k ≡ true → called k b w ≡ None → PartAs (more k b).last (f ++ w ∷ []) (more k b).gates (more k b).wires
 next_as Gate f b w p h m c =
     let q = for_gate b.last f b.gates b.wires p.part m in
-    let l = leb-false 127 b.gates (none_of (leb 127 b.gates) _ c) in
+    let l : b.gates < 127 = grind arith in
     let r = row_gate f b.gates w (subst (λ (x : ℕ). Row f b.gates x) q.1 q.0) h l in
     (subst (λ (x : ℕ). Row (f ++ w ∷ []) (b.gates + 1) x) (sym q.1) r, q.1)
 next_as Wire f b w p h m c =
-    let x = then_none (ltb b.gates (from_of w)) _ _ c in
-    let y = then_none (ltb b.gates (to_of w)) _ _ x.1 in
-    let z = none_of (leb 512 b.wires) _ y.1 in
     record {
       front = f;
       earlier = b.wires;
@@ -263,31 +203,27 @@ next_as Wire f b w p h m c =
       to = to_of w;
       row = for_wire b.last f b.gates b.wires p.part m;
       counted = refl;
-      room = leb-false 512 b.wires z;
-      starts = ltb-false b.gates (from_of w) x.0;
-      ends = ltb-false b.gates (to_of w) y.0;
+      room = grind arith;
+      starts = grind arith;
+      ends = grind arith;
       whole = ap (λ (u : ℕ). f ++ u ∷ []) (sym (trips.wire_back w h));
     }
 next_as Fill f b w p h m c =
-    fill_row f b.gates b.wires w (for_fill b.last f b.gates b.wires p.part m) h (ltb-false (ceiling_of w) (floor_of w) (none_of (ltb (ceiling_of w) (floor_of w)) _ c))
+    fill_row f b.gates b.wires w (for_fill b.last f b.gates b.wires p.part m) h (grind arith)
 next_as Clock f b w p h m c =
-    let z = eqb-false (clock_of w) 0 (none_of (eqb (clock_of w) 0) _ c) in
+    let z : 1 ≤ clock_of w = grind arith in
     record {
       front = f;
       clock = clock_of w;
       row = for_clock b.last f b.gates b.wires p.part m;
-      ticks = omega arith;
+      ticks = z;
       limit = omega arith;
       whole = ap (λ (u : ℕ). f ++ u ∷ []) (sym (trips.clock_back w h));
     }
 next_as End f b w p h m c =
-    let z = eqb-true (count_of w) b.words (not-false _ (none_of (not (eqb (count_of w) b.words)) _ c)) in
+    let z : count_of w ≡ b.words = grind arith in
     ends f b.gates b.wires w (for_end b.last f b.gates b.wires p.part m) (sym (trips.end_back w h) ∙ z ∙ p.counted)
-next_as Cost f b w p h m c = absurd (none_follows b.last m)
-next_as Label f b w p h m c = absurd (none_follows b.last m)
-next_as Refused f b w p h m c = absurd (none_follows b.last m)
-next_as Limited f b w p h m c = absurd (none_follows b.last m)
-next_as Other f b w p h m c = absurd (none_follows b.last m)
+next_as k f b w p h m c = absurd (none_follows b.last m)
 
 next : (f : List ℕ) (b : Before) (w : ℕ) → Part f b → wrong b w ≡ None → Part (f ++ w ∷ []) (more (kind_of w) b)
 next f b w p e =
@@ -329,11 +265,7 @@ begins_as Wire f g n p = row_begins f g n (wire_row f g n p)
 begins_as Fill f g n p = row_begins f g n p
 begins_as Clock f g n p = let e = ends f g n (length f) p refl in record { rest = length f ∷ []; netlist = e.0; spelled = e.1 }
 begins_as End f g n p = record { rest = []; netlist = p.0; spelled = subst (λ (x : List ℕ). Spells x p.0) (sym (append-nil f)) p.1 }
-begins_as Cost f g n p = absurd p
-begins_as Label f g n p = absurd p
-begins_as Refused f g n p = absurd p
-begins_as Limited f g n p = absurd p
-begins_as Other f g n p = absurd p
+begins_as k f g n p = absurd p
 
 pub right_begins : (ws : List ℕ) → Right start ws → Begins ws
 right_begins ws r = let p = right_part ws r in begins_as (reached ws).last ws (reached ws).gates (reached ws).wires p.part

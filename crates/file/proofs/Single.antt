@@ -1,17 +1,17 @@
 -- Words have one fault at most, and none if they are a file; and they are one file at most.
-use Rattle.std.proofs.Common.{◌≡◌, ℕ, ◌+◌, ◌<◌, ◌≤◌, Bool, true, false, cond, not, ◌&&◌, eqb, ltb, leb, ◌⊎◌, ◌↔◌, List, [], ◌∷◌, ◌++◌, map, length, get_or, take, Some, None, Option, sym, refl, ap, ◌∙◌, subst, inl, inr, arith}
+use Rattle.std.proofs.Common.{◌≡◌, ℕ, ◌+◌, ◌<◌, ◌≤◌, Bool, cond, ◌⊎◌, ◌↔◌, List, [], ◌∷◌, ◌++◌, map, length, get_or, take, Some, None, Option, sym, refl, ap, ◌∙◌, subst, inl, inr, arith}
 use Rattle.std.specs.List.{AllByRecursion}
 use Rattle.std.proofs.lemmas.List.{take_all, length-take, length-take-le, take-take, get_or-take, length_push, length-append, length-map, take_at, get_or_at}
 use Rattle.std.proofs.lemmas.Bool.{cases_order}
 use Rattle.words.proofs.Both.{trips}
 use Rattle.words.specs.declared.Kind.{Kind}
-use Rattle.words.specs.Layout.{kind_of, stray, from_of, to_of, price_of, registers_of, floor_of, ceiling_of, clock_of, count_of, gate_word, wire_word, fill_word, clock_word, end_word}
-use Rattle.refusals.specs.declared.Refusal.TheVariants.{Range, NoGate, Reversed, NotNext, StrayBit, BadEnd, AfterEnd, Full, WiresUsed}
+use Rattle.words.specs.Layout.{kind_of, stray, price_of, registers_of, floor_of, ceiling_of, gate_word, wire_word, fill_word, clock_word, end_word}
+use Rattle.refusals.specs.declared.Refusal.TheVariants.{BadEnd}
 use Rattle.refusals.specs.declared.LoadRefusal.{LoadRefusal}
-use Rattle.refusals.specs.declared.LoadRefusal.TheVariants.{Call, Word}
+use Rattle.refusals.specs.declared.LoadRefusal.TheVariants.{Call}
 use Rattle.words.specs.Netlist.{Wire, Netlist, Joins, WireWords, none, alone, filled, Spells, Begins}
 use Rattle.refusals.specs.Refusals.{load_place_of}
-use Rattle.file.specs.Faults.{Before, before, is_gate, is_wire, is_fill, is_clock, is_end, may_follow, called, wrong, FaultAt, word, missing}
+use Rattle.file.specs.Faults.{Before, before, is_end, may_follow, called, wrong, FaultAt, word, missing}
 use Rattle.file.specs.Stepping.{start}
 use Rattle.file.specs.Theorems.{OneMeaning}
 use Rattle.file.proofs.Rights.{wrong_is, Right, right_front, right_at, right_more}
@@ -30,11 +30,10 @@ not_inside ws f i k h l e r =
     let le : i ≤ k = omega arith in
     let t : take i (take k ws) ≡ take i ws = take-take i k ws le in
     let d : get_or (take k ws) i 0 ≡ get_or ws i 0 = get_or-take k ws i 0 h in
-    let z : ◌≡◌ {A = ℕ} 0 1 = cc in
-    omega arith
+    grind arith
 
 not_in_all : (ws : List ℕ) (f : LoadRefusal) (i : ℕ) → i < length ws → wrong (before (take i ws)) (get_or ws i 0) ≡ Some f → Right start ws → ⊥
-not_in_all ws f i h e r = let y = wrong_is (take i ws) (get_or ws i 0) in let a = right_at start ws i h r in let z : ◌≡◌ {A = ℕ} 0 1 = cc in omega arith
+not_in_all ws f i h e r = let y = wrong_is (take i ws) (get_or ws i 0) in let a = right_at start ws i h r in grind arith
 
 no_fault : (ws : List ℕ) (f : LoadRefusal) (s : Netlist) → FaultAt ws f → Spells ws s → ⊥
 no_fault ws f s (word at b h e) p = not_in_all ws f at h e (file_right ws s p)
@@ -61,9 +60,9 @@ Past (w ∷ ws) = 0x2000_0000 ≤ w
 
 gates_same : (ds es : List ℕ) (r t : List ℕ) → AllByRecursion (λ d. d < 0x1_0000) ds → AllByRecursion (λ d. d < 0x1_0000) es → Past r → Past t → map gate_word ds ++ r ≡ map gate_word es ++ t → (ds ≡ es) × (r ≡ t)
 gates_same [] [] r t h k p q e = (refl, e)
-gates_same [] (x ∷ es) [] t h k p q e = absurd (let z : ◌≡◌ {A = ℕ} 0 1 = cc in omega arith)
+gates_same [] (x ∷ es) [] t h k p q e = grind arith
 gates_same [] (x ∷ es) (w ∷ r) t h k p q e = absurd (let z : w ≡ gate_word x = cc in let y = k.0 in omega arith)
-gates_same (d ∷ ds) [] r [] h k p q e = absurd (let z : ◌≡◌ {A = ℕ} 0 1 = cc in omega arith)
+gates_same (d ∷ ds) [] r [] h k p q e = grind arith
 gates_same (d ∷ ds) [] r (w ∷ t) h k p q e = absurd (let z : gate_word d ≡ w = cc in let y = h.0 in omega arith)
 gates_same (d ∷ ds) (x ∷ es) r t h k p q e =
     let a : gate_word d ≡ gate_word x = cc in
@@ -91,13 +90,7 @@ same_wire : (a b a' b' : ℕ) → a < 128 → b < 128 → a' < 128 → b' < 128 
 same_wire a b a' b' h k l m e = (omega arith, omega arith)
 
 pub same_fields : (v u : Wire) → v.from ≡ u.from → v.to ≡ u.to → v.registers ≡ u.registers → v.price ≡ u.price → v.floor ≡ u.floor → v.ceiling ≡ u.ceiling → v ≡ u
-same_fields v u a b c d e f =
-    ap (λ (x : ℕ). record { from = x; to = v.to; registers = v.registers; price = v.price; floor = v.floor; ceiling = v.ceiling }) a
-    ∙ ap (λ (x : ℕ). record { from = u.from; to = x; registers = v.registers; price = v.price; floor = v.floor; ceiling = v.ceiling }) b
-    ∙ ap (λ (x : ℕ). record { from = u.from; to = u.to; registers = x; price = v.price; floor = v.floor; ceiling = v.ceiling }) c
-    ∙ ap (λ (x : ℕ). record { from = u.from; to = u.to; registers = u.registers; price = x; floor = v.floor; ceiling = v.ceiling }) d
-    ∙ ap (λ (x : ℕ). record { from = u.from; to = u.to; registers = u.registers; price = u.price; floor = x; ceiling = v.ceiling }) e
-    ∙ ap (λ (x : ℕ). record { from = u.from; to = u.to; registers = u.registers; price = u.price; floor = u.floor; ceiling = x }) f
+same_fields v u a b c d e f = grind arith
 
 same_fill : (g : ℕ) (v u : Wire) → Joins g v → Joins g u → v.from ≡ u.from → v.to ≡ u.to → fill_word v.price v.registers v.floor v.ceiling ≡ fill_word u.price u.registers u.floor u.ceiling → v ≡ u
 same_fill g v u j k p q e =
@@ -152,9 +145,10 @@ one_reading ws s t p q =
     let a = gates_same s.delays t.delays _ _ p.fits.short q.fits.short (past_wires p.wires s.clock (end_word n ∷ [])) (past_wires q.wires t.clock (end_word m ∷ [])) (sym p.whole ∙ q.whole) in
     let j = subst (λ (x : List ℕ). AllByRecursion (Joins (length x)) t.wires) (sym a.0) q.fits.joins in
     let b = wires_same (length s.delays) p.fits.few s.clock t.clock p.fits.limit q.fits.limit (end_word n ∷ []) (end_word m ∷ []) p.wires q.wires p.fits.joins j a.1 in
-    ap (λ (x : List ℕ). record { delays = x; wires = s.wires; clock = s.clock }) a.0
-    ∙ ap (λ (x : List Wire). record { delays = t.delays; wires = x; clock = s.clock }) b.0
-    ∙ ap (λ (x : ℕ). record { delays = t.delays; wires = t.wires; clock = x }) b.1
+    let d = a.0 in
+    let v = b.0 in
+    let k = b.1 in
+    grind arith
 
 -- ---- fronts
 next_word : (front : List ℕ) (w : ℕ) → Begins front → (wrong (before front) w ≡ None) ↔ Begins (front ++ w ∷ [])
@@ -186,36 +180,16 @@ pub front_long : (f : List ℕ) → Begins f → length f ≤ 1153
 front_long f b = let a = file_long (f ++ b.rest) b.netlist b.spelled in let c = length-append f b.rest in omega arith
 
 -- what is wrong with a word has the word's index as its place
-some_same : {f g : LoadRefusal} → Some f ≡ Some g → f ≡ g
-some_same e = cc
-
-placed_one : (b : Bool) (f g : LoadRefusal) (o : Option LoadRefusal) (n : ℕ) → load_place_of g ≡ n → (o ≡ Some f → load_place_of f ≡ n) → cond b (Some g) o ≡ Some f → load_place_of f ≡ n
-placed_one true f g o n p r e = ap load_place_of (sym (some_same e)) ∙ p
-placed_one false f g o n p r e = r e
-
-placed_none : (f : LoadRefusal) (n : ℕ) → ◌≡◌ {A = Option LoadRefusal} None (Some f) → load_place_of f ≡ n
-placed_none f n e = absurd (let q : ◌≡◌ {A = ℕ} 0 1 = cc in omega arith)
-
-placed_else : (b : Bool) (f g : LoadRefusal) (o : Option LoadRefusal) (n : ℕ) → load_place_of g ≡ n → (o ≡ Some f → load_place_of f ≡ n) → cond b o (Some g) ≡ Some f → load_place_of f ≡ n
-placed_else true f g o n p r e = r e
-placed_else false f g o n p r e = ap load_place_of (sym (some_same e)) ∙ p
-
 called_place : (k : Kind) (b : Before) (w : ℕ) (f : LoadRefusal) → called k b w ≡ Some f → load_place_of f ≡ b.words
-called_place k b w f e =
-    let n = b.words in
-    placed_one (is_gate k && leb 127 b.gates) f (Word n (Full 0)) _ n refl
-    (placed_one (is_wire k && ltb b.gates (from_of w)) f (Word n (NoGate 0)) _ n refl
-    (placed_one (is_wire k && ltb b.gates (to_of w)) f (Word n (NoGate 1)) _ n refl
-    (placed_one (is_wire k && leb 512 b.wires) f (Word n WiresUsed) _ n refl
-    (placed_one (is_fill k && ltb (ceiling_of w) (floor_of w)) f (Word n (Reversed 4)) _ n refl
-    (placed_one (is_clock k && eqb (clock_of w) 0) f (Word n (Range 0)) _ n refl
-    (placed_one (is_end k && not (eqb (count_of w) n)) f (Call (BadEnd n)) None n refl (placed_none f n))))))) e
+called_place k b w f e = grind arith
+
+placed : (x y z : Bool) (a s n f : LoadRefusal) (o : Option LoadRefusal) (at : ℕ) → load_place_of a ≡ at → load_place_of s ≡ at → load_place_of n ≡ at → (o ≡ Some f → load_place_of f ≡ at)
+    → cond x (Some a) (cond y (cond z (Some s) o) (Some n)) ≡ Some f → load_place_of f ≡ at
+placed x y z a s n f o at p q r h e = grind arith
 
 wrong_place : (b : Before) (w : ℕ) (f : LoadRefusal) → wrong b w ≡ Some f → load_place_of f ≡ b.words
 wrong_place b w f e =
-    let n = b.words in
-    placed_one (is_end b.last) f (Call (AfterEnd n)) _ n refl
-    (placed_else (may_follow b.last (kind_of w)) f (Call (NotNext n)) _ n refl (placed_one (stray w) f (Call (StrayBit n)) _ n refl (called_place (kind_of w) b w f))) e
+    placed (is_end b.last) (may_follow b.last (kind_of w)) (stray w) _ _ _ f _ b.words refl refl refl (called_place (kind_of w) b w f) e
 
 place : (ws : List ℕ) (f : LoadRefusal) → FaultAt ws f → load_place_of f ≤ 1153
 place ws f (word at b h e) =

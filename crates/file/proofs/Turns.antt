@@ -1,5 +1,5 @@
 -- The turns of the loop over a file's words, and its ends.
-use Rattle.std.proofs.Common.{◌≡◌, ℕ, ◌+◌, ◌<◌, ◌≤◌, Bool, true, false, List, [], ◌∷◌, ◌++◌, map, length, get_or, take, Ok, Err, sym, refl, ap, ◌∙◌, subst, arith}
+use Rattle.std.proofs.Common.{◌≡◌, ℕ, ◌+◌, ◌<◌, ◌≤◌, Bool, List, [], ◌∷◌, ◌++◌, map, length, get_or, take, Some, None, Ok, Err, sym, refl, ap, ◌∙◌, subst, arith}
 use Rattle.std.proofs.lemmas.List.{append_assoc, take_more, take_all, length-take-le}
 use Rattle.words.specs.declared.Kind.{Kind}
 use Rattle.words.specs.declared.Kind.TheVariants.{End}
@@ -10,12 +10,12 @@ use Rattle.refusals.specs.declared.LoadRefusal.{LoadRefusal}
 use Rattle.refusals.specs.declared.LoadRefusal.TheVariants.{Call}
 use Rattle.file.specs.declared.machine.Seen.{Seen}
 use Rattle.file.specs.declared.machine.State.{State}
-use Rattle.file.specs.declared.machine.State.TheVariants.{Gates, Wires, Clock as Clocked, End as Ended}
+use Rattle.file.specs.declared.machine.State.TheVariants.{End as Ended}
 use Rattle.words.specs.Netlist.{Netlist, Spells}
-use Rattle.file.specs.Faults.{Before, wrong, FaultAt, word, missing}
+use Rattle.file.specs.Faults.{Before, wrong, word, missing, Judged}
 use Rattle.file.specs.Stepping.{start, more, up_to}
-use Rattle.file.specs.Stepping.{last_of, shown, SteppedAs}
-use Rattle.file.proofs.Rights.{reached, wrong_is, Right, Few, right_more, up_to_more, few_more, words_up_to}
+use Rattle.file.specs.Stepping.{last_of, shown}
+use Rattle.file.proofs.Rights.{reached, wrong_is, Right, right_more, up_to_more, words_up_to}
 use Rattle.file.proofs.Rows.{right_begins, right_spells}
 use Rattle.file.proofs.Files.{body_long}
 use Rattle.file.proofs.Single.{front_long}
@@ -38,20 +38,18 @@ file_ends ws s p =
 pub record Come (ws : List ℕ) (i : ℕ) (s : Seen) : Type 0 where
   pub seen : shown s ≡ reached (take i ws)
   pub right : Right start (take i ws)
-  pub few : Few (shown s)
 
 module _ (ws : List ℕ) (i : ℕ) (s : Seen) (h : i < length ws) (c : Come ws i s) where
-  pub turn : (t : Seen) → SteppedAs (shown s) (get_or ws i 0) (Ok t) → Come ws (i + 1) t
-  turn t o =
-      let e = take_more ws i 0 h in
+  pub turn : (t : Seen) → None ≡ wrong (shown s) (get_or ws i 0) → shown t ≡ more (kind_of (get_or ws i 0)) (shown s) → Come ws (i + 1) t
+  turn t e f =
+      let g = take_more ws i 0 h in
       record {
-        seen = o.1 ∙ ap (more (kind_of (get_or ws i 0))) c.seen ∙ sym (up_to_more start (take i ws) (get_or ws i 0)) ∙ ap reached (sym e);
-        right = subst (Right start) (sym e) (right_more start (take i ws) (get_or ws i 0) c.right (ap (λ (b : Before). wrong b (get_or ws i 0)) (sym c.seen) ∙ o.0));
-        few = subst Few (sym o.1) (few_more (kind_of (get_or ws i 0)) (shown s) c.few);
+        seen = f ∙ ap (more (kind_of (get_or ws i 0))) c.seen ∙ sym (up_to_more start (take i ws) (get_or ws i 0)) ∙ ap reached (sym g);
+        right = subst (Right start) (sym g) (right_more start (take i ws) (get_or ws i 0) c.right (ap (λ (b : Before). wrong b (get_or ws i 0)) (sym c.seen) ∙ sym e));
       }
 
-  pub stopped : (f : LoadRefusal) → SteppedAs (shown s) (get_or ws i 0) (Err f) → FaultAt ws f
-  stopped f o = word i (right_begins (take i ws) c.right) h (sym (wrong_is (take i ws) (get_or ws i 0)) ∙ ap (λ (b : Before). wrong b (get_or ws i 0)) (sym c.seen) ∙ o)
+  pub stopped : (f : LoadRefusal) → Some f ≡ wrong (shown s) (get_or ws i 0) → Judged ws (Err f)
+  stopped f e = record { outcome = word i (right_begins (take i ws) c.right) h (sym (wrong_is (take i ws) (get_or ws i 0)) ∙ ap (λ (b : Before). wrong b (get_or ws i 0)) (sym c.seen) ∙ sym e) }
 
 -- as many words as were read, and no file is longer than 1,153
 words_read : (ws : List ℕ) (i : ℕ) (s : Seen) → i ≤ length ws → Come ws i s → s.words ≡ i
@@ -75,21 +73,21 @@ module _ (ws : List ℕ) (i : ℕ) (s : Seen) (h : length ws ≤ i) (c : Come ws
   last : last_of s.state s.unfilled ≡ (reached ws).last
   last = ap (λ (b : Before). b.last) c.seen ∙ ap (λ (x : List ℕ). (reached x).last) (take_all i ws h)
 
-  pub all_words : s.words ≡ length ws
+  all_words : s.words ≡ length ws
   all_words =
       let a : s.words ≡ (up_to start ws).words = ap (λ (b : Before). b.words) c.seen ∙ ap (λ (x : List ℕ). (up_to start x).words) (take_all i ws h) in
       let b = words_up_to start ws in
       omega arith
 
-  pub finished : s.state ≡ Ended → (t : Netlist) × Spells ws t
-  finished e = right_spells ws all (sym last ∙ ap (λ (x : State). last_of x s.unfilled) e)
+  pub finished : s.state ≡ Ended → Judged ws (Ok tt)
+  finished e = record { outcome = right_spells ws all (sym last ∙ ap (λ (x : State). last_of x s.unfilled) e) }
 
   not_ended : (x : State) (u : Bool) → (x ≡ Ended → ⊥) → last_of x u ≡ End → ⊥
-  not_ended Gates u f e = let z : ◌≡◌ {A = ℕ} 0 1 = cc in omega arith
-  not_ended Wires true f e = let z : ◌≡◌ {A = ℕ} 0 1 = cc in omega arith
-  not_ended Wires false f e = let z : ◌≡◌ {A = ℕ} 0 1 = cc in omega arith
-  not_ended Clocked u f e = let z : ◌≡◌ {A = ℕ} 0 1 = cc in omega arith
   not_ended Ended u f e = f refl
+  not_ended x u f e = grind arith
 
-  pub unfinished : (s.state ≡ Ended → ⊥) → FaultAt ws (Call (BadEnd (length ws)))
-  unfinished f = missing (right_begins ws all) (λ t p. not_ended s.state s.unfilled f (last ∙ file_ends ws t p))
+  pub unfinished : (s.state ≡ Ended → ⊥) → Judged ws (Err (Call (BadEnd s.words)))
+  unfinished f = rw all_words (record { outcome = missing (right_begins ws all) (λ t p. not_ended s.state s.unfilled f (last ∙ file_ends ws t p)) })
+
+-- what the loop's calls and its ends ask
+pub ruleset turns = (short, stopped, finished, unfinished)

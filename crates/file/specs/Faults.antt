@@ -1,7 +1,7 @@
 -- What is wrong with words that are no file: the first word that does not follow what stands before it.
 use Rattle.std.specs.Prelude.{◌≡◌, ℕ, ◌<◌, Bool, true, false, cond, not, ◌&&◌, ◌||◌, List, [], ◌∷◌, length, take, Some, None, Ok, Err, count_by, Option, Result, ◌==◌, nat_le, nat_lt, slice_index}
 use Rattle.words.specs.declared.Kind.{Kind}
-use Rattle.words.specs.declared.Kind.TheVariants.{End, Gate, Wire, Fill, Clock, Cost, Label, Refused, Limited, Other}
+use Rattle.words.specs.declared.Kind.TheVariants.{End, Gate, Wire, Fill, Clock}
 use Rattle.words.specs.Layout.{kind_of, stray, from_of, to_of, floor_of, ceiling_of, clock_of, count_of}
 use Rattle.refusals.specs.declared.Refusal.TheVariants.{Range, NoGate, Reversed, NotNext, StrayBit, BadEnd, AfterEnd, Full, WiresUsed}
 use Rattle.refusals.specs.declared.LoadRefusal.{LoadRefusal}
@@ -21,19 +21,24 @@ last_kind k [] = k
 last_kind k (w ∷ ws) = last_kind (kind_of w) ws
 
 abbrev pub is_gate : Kind → Bool
-is_gate k = elim k [ End ↦ false | Gate ↦ true | Wire ↦ false | Fill ↦ false | Clock ↦ false | Cost ↦ false | Label ↦ false | Refused ↦ false | Limited ↦ false | Other ↦ false ]
+is_gate Gate = true
+is_gate k = false
 
 abbrev pub is_wire : Kind → Bool
-is_wire k = elim k [ End ↦ false | Gate ↦ false | Wire ↦ true | Fill ↦ false | Clock ↦ false | Cost ↦ false | Label ↦ false | Refused ↦ false | Limited ↦ false | Other ↦ false ]
+is_wire Wire = true
+is_wire k = false
 
 abbrev pub is_fill : Kind → Bool
-is_fill k = elim k [ End ↦ false | Gate ↦ false | Wire ↦ false | Fill ↦ true | Clock ↦ false | Cost ↦ false | Label ↦ false | Refused ↦ false | Limited ↦ false | Other ↦ false ]
+is_fill Fill = true
+is_fill k = false
 
 abbrev pub is_clock : Kind → Bool
-is_clock k = elim k [ End ↦ false | Gate ↦ false | Wire ↦ false | Fill ↦ false | Clock ↦ true | Cost ↦ false | Label ↦ false | Refused ↦ false | Limited ↦ false | Other ↦ false ]
+is_clock Clock = true
+is_clock k = false
 
 abbrev pub is_end : Kind → Bool
-is_end k = elim k [ End ↦ true | Gate ↦ false | Wire ↦ false | Fill ↦ false | Clock ↦ false | Cost ↦ false | Label ↦ false | Refused ↦ false | Limited ↦ false | Other ↦ false ]
+is_end End = true
+is_end k = false
 
 -- at the start, as after a gate: the host is there
 abbrev pub before : List ℕ → Before

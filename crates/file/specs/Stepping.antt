@@ -1,15 +1,14 @@
 -- What a step of the machine gives.
-use Rattle.std.specs.Prelude.{◌≡◌, ℕ, ◌+◌, Bool, cond, ◌||◌, List, [], ◌∷◌, Some, None, Ok, Err, Option, Result}
+use Rattle.std.specs.Prelude.{ℕ, ◌+◌, Bool, cond, List, [], ◌∷◌, Some, None, Option}
 use Rattle.words.specs.declared.Kind.{Kind}
 use Rattle.words.specs.declared.Kind.TheVariants.{End, Gate, Wire, Fill, Clock}
 use Rattle.words.specs.Layout.{kind_of}
+use Rattle.refusals.specs.declared.Refusal.{Refusal}
 use Rattle.refusals.specs.declared.Refusal.TheVariants.{AfterEnd, NotNext}
-use Rattle.refusals.specs.declared.LoadRefusal.{LoadRefusal}
-use Rattle.refusals.specs.declared.LoadRefusal.TheVariants.{Call}
 use Rattle.file.specs.declared.machine.State.{State}
 use Rattle.file.specs.declared.machine.State.TheVariants.{Gates, Wires, Clock as Clocked, End as Ended}
 use Rattle.file.specs.declared.machine.Seen.{Seen}
-use Rattle.file.specs.Faults.{Before, is_gate, is_wire, is_fill, is_clock, is_end, may_follow, wrong}
+use Rattle.file.specs.Faults.{Before, is_gate, is_wire, is_end, may_follow}
 
 -- at the start
 abbrev pub start : Before
@@ -33,25 +32,14 @@ last_of Ended unfilled = End
 abbrev pub shown : Seen → Before
 shown s = record { last = last_of s.state s.unfilled; gates = s.gates; wires = s.wires; words = s.words }
 
+-- the state after a word of the kind
 abbrev pub state_of : Kind → State
-state_of k = cond (is_gate k) Gates (cond (is_wire k || is_fill k) Wires (cond (is_clock k) Clocked Ended))
+state_of Gate = Gates
+state_of Wire = Wires
+state_of Fill = Wires
+state_of Clock = Clocked
+state_of k = Ended
 
--- why a word of the kind may not stand after one of the first kind
-abbrev pub barred : Kind → ℕ → Kind → Option LoadRefusal
-barred last index kind = cond (is_end last) (Some (Call (AfterEnd index))) (cond (may_follow last kind) None (Some (Call (NotNext index))))
-
--- the state after a word of the kind, or why it may not stand here
-abbrev pub AllowedAs : Kind → ℕ → Kind → Result State LoadRefusal → Type 0
-AllowedAs last index kind (Ok t) = (barred last index kind ≡ None) × (t ≡ state_of kind)
-AllowedAs last index kind (Err f) = barred last index kind ≡ Some f
-
-pub record Allowed (s : Seen) (kind : Kind) (r : Result State LoadRefusal) : Type 0 where
-  pub outcome : AllowedAs (last_of s.state s.unfilled) s.words kind r
-
--- what stands before the next word, or what is wrong with this one
-abbrev pub SteppedAs : Before → ℕ → Result Seen LoadRefusal → Type 0
-SteppedAs b word (Ok t) = (wrong b word ≡ None) × (shown t ≡ more (kind_of word) b)
-SteppedAs b word (Err f) = wrong b word ≡ Some f
-
-pub record Stepped (s : Seen) (word : ℕ) (r : Result Seen LoadRefusal) : Type 0 where
-  pub outcome : SteppedAs (shown s) word r
+-- why a word of the kind may not stand next
+abbrev pub barred : Before → Kind → Option Refusal
+barred b kind = cond (is_end b.last) (Some (AfterEnd b.words)) (cond (may_follow b.last kind) None (Some (NotNext b.words)))

@@ -1,8 +1,6 @@
 ghost use Rattle.std.specs.Prelude.{◌≡◌, ◌<◌, ◌≤◌};
-ghost use Rattle.words.specs.Layout.{kind_of};
-ghost use Rattle.file.specs.Stepping.{Stepped, Allowed, shown};
 ghost use Rattle.file.specs.Theorems.{OneMeaning};
-ghost use Rattle.file.specs.Faults.{Judged, called};
+ghost use Rattle.file.specs.Faults.{Judged};
 
 use refusals::{LoadRefusal, Refusal};
 use words::Kind;
@@ -17,6 +15,7 @@ enum State {
 }
 
 // What the words so far come to; `unfilled` where the last is a wire word, so that a fill word may follow.
+// It stands beside the state, since the machine has these four states and no fifth.
 #[derive(Clone, Copy, PartialEq, Eq, Debug)]
 struct Seen {
     state: State,
@@ -26,67 +25,72 @@ struct Seen {
     words: u32,
 }
 
-// The state after a word of the kind, if it may stand next.
-fn next_state(seen: Seen, kind: Kind) -> Result<State, LoadRefusal>
-    ensures { Allowed seen kind result }
-{
-    match (seen.state, kind) {
-        (State::Gates, Kind::Gate) => Ok(State::Gates),
-        (State::Gates | State::Wires, Kind::Wire) => Ok(State::Wires),
-        (State::Wires, Kind::Fill) if seen.unfilled => Ok(State::Wires),
-        (State::Gates | State::Wires, Kind::Clock) => Ok(State::Clock),
-        (State::Clock, Kind::End) => Ok(State::End),
-        (State::End, _) => Err(LoadRefusal::Call(Refusal::AfterEnd(seen.words))),
-        _ => Err(LoadRefusal::Call(Refusal::NotNext(seen.words))),
-    }
-}
+impl Seen {
+    ghost use Rattle.std.specs.Prelude.{◌≡◌, ◌≤◌, IfOk};
+    ghost use Rattle.std.specs.Result.{result_err};
+    ghost use Rattle.words.specs.Layout.{kind_of};
+    ghost use Rattle.file.specs.Faults.{called, wrong};
+    ghost use Rattle.file.specs.Stepping.{shown, barred, state_of, more};
 
-// What the call refuses that the word stands for, or an end's wrong count.
-fn refused(seen: Seen, kind: Kind, word: u32) -> Option<LoadRefusal>
-    requires { kind ≡ kind_of word }
-    ensures { result ≡ called kind (shown seen) word }
-{
-    let index = seen.words;
-    let refusal = match kind {
-        Kind::Gate if seen.gates >= 127 => Refusal::Full(0),
-        Kind::Wire if u32::from(words::from(word)) > seen.gates => Refusal::NoGate(0),
-        Kind::Wire if u32::from(words::to(word)) > seen.gates => Refusal::NoGate(1),
-        Kind::Wire if seen.wires >= 512 => Refusal::WiresUsed,
-        Kind::Fill if words::floor(word) > words::ceiling(word) => Refusal::Reversed(4),
-        Kind::Clock if words::clock(word) == 0 => Refusal::Range(0),
-        Kind::End if words::count(word) != index => {
-            return Some(LoadRefusal::Call(Refusal::BadEnd(index)));
+    // The state after a word of the kind, if it may stand next.
+    fn next_state(self, kind: Kind) -> Result<State, Refusal>
+        ensures barred { result_err result ≡ barred (shown self) kind }
+        ensures state { IfOk result (λ state. state ≡ state_of kind) }
+    {
+        match (self.state, kind) {
+            (State::Gates, Kind::Gate) => Ok(State::Gates),
+            (State::Gates | State::Wires, Kind::Wire) => Ok(State::Wires),
+            (State::Wires, Kind::Fill) if self.unfilled => Ok(State::Wires),
+            (State::Gates | State::Wires, Kind::Clock) => Ok(State::Clock),
+            (State::Clock, Kind::End) => Ok(State::End),
+            (State::End, _) => Err(Refusal::AfterEnd(self.words)),
+            _ => Err(Refusal::NotNext(self.words)),
         }
-        _ => return None,
-    };
-    Some(LoadRefusal::Word { index, refusal })
-}
+    }
 
-// One word more, or what is wrong with it.
-fn step(seen: Seen, word: u32) -> Result<Seen, LoadRefusal>
-    requires words { seen.words ≤ 1153 }
-    requires gates { seen.gates ≤ seen.words }
-    requires wires { seen.wires ≤ seen.words }
-    ensures { Stepped seen word result }
-{
-    let kind = words::kind_of(word);
-    let state = next_state(seen, kind)?;
-    if words::has_stray(word) {
-        return Err(LoadRefusal::Call(Refusal::StrayBit(seen.words)));
+    // Refuses what the call refuses that the word stands for, and an end's wrong count.
+    fn check_call(self, kind: Kind, word: u32) -> Result<(), LoadRefusal>
+        requires { kind ≡ kind_of word }
+        ensures { result_err result ≡ called kind (shown self) word }
+    {
+        let index = self.words;
+        let refusal = match kind {
+            Kind::Gate if self.gates >= 127 => Refusal::Full(0),
+            Kind::Wire if u32::from(words::from(word)) > self.gates => Refusal::NoGate(0),
+            Kind::Wire if u32::from(words::to(word)) > self.gates => Refusal::NoGate(1),
+            Kind::Wire if self.wires >= 512 => Refusal::WiresUsed,
+            Kind::Fill if words::floor(word) > words::ceiling(word) => Refusal::Reversed(4),
+            Kind::Clock if words::clock(word) == 0 => Refusal::Range(0),
+            Kind::End if words::count(word) != index => return Err(Refusal::BadEnd(index).into()),
+            _ => return Ok(()),
+        };
+        Err(LoadRefusal::Word { index, refusal })
     }
-    if let Some(why) = refused(seen, kind, word) {
-        return Err(why);
+
+    // One word more, or what is wrong with it.
+    fn step(self, word: u32) -> Result<Seen, LoadRefusal>
+        requires { self.words ≤ 1153 }
+        ensures wrong { result_err result ≡ wrong (shown self) word }
+        ensures more { IfOk result (λ seen. shown seen ≡ more (kind_of word) (shown self)) }
+    {
+        let kind = words::kind_of(word);
+        let state = self.next_state(kind)?;
+        if words::has_stray(word) {
+            return Err(Refusal::StrayBit(self.words).into());
+        }
+        self.check_call(kind, word)?;
+        Ok(Seen {
+            state,
+            unfilled: kind == Kind::Wire,
+            gates: self.gates + u32::from(kind == Kind::Gate),
+            wires: self.wires + u32::from(kind == Kind::Wire),
+            words: self.words + 1,
+        })
     }
-    Ok(Seen {
-        state,
-        unfilled: kind == Kind::Wire,
-        gates: seen.gates + u32::from(kind == Kind::Gate),
-        wires: seen.wires + u32::from(kind == Kind::Wire),
-        words: seen.words + 1,
-    })
 }
 
 // Whether the words are a file; if not, its first fault.
+#[tactic(auto, using(crate::proofs::Turns::turns))]
 pub fn judge(file: &[u32]) -> Result<(), LoadRefusal>
     ensures { Judged file.now result }
 {
@@ -98,17 +102,15 @@ pub fn judge(file: &[u32]) -> Result<(), LoadRefusal>
         words: 0,
     };
     for word in file {
-        seen = step(seen, *word)?;
+        seen = seen.step(*word)?;
     }
     match seen.state {
         State::End => Ok(()),
-        _ => Err(LoadRefusal::Call(Refusal::BadEnd(seen.words))),
+        _ => Err(Refusal::BadEnd(seen.words).into()),
     }
 }
 
 // Words are one file or have one fault, never both.
-pub fn one_meaning() -> u8
+pub fn one_meaning()
     ensures { OneMeaning }
-{
-    0
-}
+{}

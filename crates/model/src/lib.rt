@@ -15,80 +15,54 @@ pub struct Wire {
     pub ceiling: u8,
 }
 
-pub fn path_sum() -> u8
+pub fn path_sum()
     ensures { PathSum }
-{
-    0
-}
+{}
 
-pub fn clock_by_limits() -> u8
+pub fn clock_by_limits()
     ensures { ClockByLimits }
-{
-    0
-}
+{}
 
-pub fn values_stay<V>() -> u8
+pub fn values_stay<V>()
     ensures { ValuesStay V }
-{
-    0
-}
+{}
 
-pub fn retimed_moves() -> u8
+pub fn retimed_moves()
     ensures { RetimedMoves }
-{
-    0
-}
+{}
 
-pub fn stands_below() -> u8
+pub fn stands_below()
     ensures { StandsBelow }
-{
-    0
-}
+{}
 
-pub fn least_by_amounts() -> u8
+pub fn least_by_amounts()
     ensures { LeastByAmounts }
-{
-    0
-}
+{}
 
-pub fn none_by_chain() -> u8
+pub fn none_by_chain()
     ensures { NoneByChain }
-{
-    0
-}
+{}
 
-pub fn worked_examples() -> u8
+pub fn worked_examples()
     ensures { Worked }
-{
-    0
-}
+{}
 
-pub fn moves_add() -> u8
+pub fn moves_add()
     ensures { MovesAdd }
-{
-    0
-}
+{}
 
-pub fn one_each() -> u8
+pub fn one_each()
     ensures { OneEach }
-{
-    0
-}
+{}
 
-pub fn applied() -> u8
+pub fn applied()
     ensures { Applied }
-{
-    0
-}
+{}
 
-pub fn places_are_limits() -> u8
+pub fn places_are_limits()
     ensures { PlacesAreLimits }
-{
-    0
-}
+{}
 
-pub fn places_suffice() -> u8
+pub fn places_suffice()
     ensures { PlacesSuffice }
-{
-    0
-}
+{}

@@ -10,25 +10,7 @@ refusal_at n p = get_or (Range p ∷ NoGate p ∷ NoWire p ∷ Reversed p ∷ Me
 
 told : (r : Refusal) → refusal_at (number_of r) (place_of r) ≡ r
 told (Range p) = refl
-told (NoGate p) = refl
-told (NoWire p) = refl
-told (Reversed p) = refl
-told (Memory p) = refl
-told RuleTooLong = refl
-told (NotNext p) = refl
-told (StrayBit p) = refl
-told (BadEnd p) = refl
-told (AfterEnd p) = refl
-told (Full p) = refl
-told WiresUsed = refl
-told NoClock = refl
-told (Loop p) = refl
-told LogFull = refl
-told (NoLabelling p) = refl
-told (Apart p) = refl
-told LogEmpty = refl
-told Waiting = refl
-told WrongSlip = refl
+told r = refl
 
 pub told_apart : (r s : Refusal) → number_of r ≡ number_of s → place_of r ≡ place_of s → r ≡ s
 told_apart r s e f = sym (told r) ∙ ap (λ (n : ℕ). refusal_at n (place_of r)) e ∙ ap (refusal_at (number_of s)) f ∙ told s

@@ -7,12 +7,10 @@ ghost use Rattle.std.specs.Cmp.Rules.{comparing};
 ghost use Rattle.std.proofs.Common.{rules};
 ghost use Rattle.std.specs.Ordering.{on, eq_of_both};
 
-use std::fmt;
-
 pub mod shown;
 
 // Why a call is refused. The number in a case is its place; a case without one has place 0.
-#[derive(Clone, Copy)]
+#[derive(Clone, Copy, Debug)]
 pub enum Refusal {
     // 1: the argument at that position is out of range.
     Range(u32),
@@ -113,12 +111,13 @@ impl Refusal {
     }
 }
 
-// Number and place tell which refusal it is.
+// By hand, since the clauses promise that number and place alone tell which refusal it is: a derive's say only what is equal.
 impl PartialEq for Refusal {
     ghost eq = { eq_of_both (on number_of ◌==◌) (on place_of ◌==◌) };
 
     ghost laws = { Prim.search (comparing, rules) };
 
+    #[tactic(auto, using(crate::proofs::Told::told_apart))]
     fn eq(&self, other: &Refusal) -> bool
         ensures computed { result ≡ eq_of_both (on number_of ◌==◌) (on place_of ◌==◌) self.now other.now }
         ensures same { Decides result (self.now ≡ other.now) }
@@ -129,14 +128,6 @@ impl PartialEq for Refusal {
 
 impl Eq for Refusal {
     ghost laws = { Prim.search (comparing, rules) };
-}
-
-impl fmt::Debug for Refusal {
-    fn fmt<W: fmt::Write>(&self, f: &mut fmt::Formatter<W>) -> fmt::Result {
-        let number = self.number();
-        let place = self.place();
-        write!(f, "refusal {number} at {place}")
-    }
 }
 
 // A load is refused as a call, or at a word, with what the call refuses that the word stands for.
@@ -151,8 +142,7 @@ impl LoadRefusal {
         ensures { result ≡ load_number_of self }
     {
         match self {
-            LoadRefusal::Call(refusal) => refusal.number(),
-            LoadRefusal::Word { refusal, .. } => refusal.number(),
+            LoadRefusal::Call(refusal) | LoadRefusal::Word { refusal, .. } => refusal.number(),
         }
     }
 
@@ -163,5 +153,17 @@ impl LoadRefusal {
             LoadRefusal::Call(refusal) => refusal.place(),
             LoadRefusal::Word { index, .. } => index,
         }
+    }
+}
+
+// A refusal of the call itself.
+impl From<Refusal> for LoadRefusal {
+    ghost use Rattle.std.specs.Prelude.{◌≡◌};
+    ghost use Rattle.refusals.specs.declared.LoadRefusal.TheVariants.{Call};
+
+    ghost from_gives = { λ why e. e ≡ Call why };
+
+    fn from(why: Refusal) -> LoadRefusal {
+        LoadRefusal::Call(why)
     }
 }
