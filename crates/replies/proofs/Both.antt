@@ -5,7 +5,7 @@ use Rattle.std.proofs.lemmas.Bool.{lt-leb, leb-false, cond-true, cond-false, lt-
 use Rattle.words.specs.declared.Kind.TheVariants.{Cost, Label, Refused, Limited}
 use Rattle.replies.specs.declared.LimitWord.{LimitWord}
 use Rattle.replies.specs.declared.LimitWord.TheVariants.{Floor, Ceiling, Clock as Clocked, Rule}
-use Rattle.words.specs.Layout.{limit_room, from_of, to_of}
+use Rattle.words.specs.Layout.{limit_kind_at, limit_room, from_of, to_of}
 use Rattle.replies.specs.Replies.{signed, complement, limit_at, limit_of, cost_word, label_word, refusal_word, limit_word, InFields}
 use Rattle.words.specs.Trips.{Plain}
 use Rattle.words.proofs.Both.{plain, top, low}
@@ -31,11 +31,11 @@ complement-signed n h =
     ]
 
 -- the fields below which a limit has no stray bit
-limit_plain : (w which : ℕ) → w / 0x1000_0000 ≡ 8 → w % 0x1000_0000 / 0x400_0000 ≡ which → w % 0x1000_0000 % 0x400_0000 < limit_room which → Plain Limited w
-limit_plain w which e f h = plain Limited w 8 e refl (lt-leb _ _ (subst (λ (x : ℕ). w % 0x1000_0000 % 0x400_0000 < limit_room x) (sym f) h))
+limit_plain : (w which : ℕ) → w / 0x1000_0000 ≡ 8 → w % 0x1000_0000 / 0x400_0000 ≡ which → w % 0x1000_0000 % 0x400_0000 < limit_room (limit_kind_at which) → Plain Limited w
+limit_plain w which e f h = plain Limited w 8 e refl (lt-leb _ _ (subst (λ (x : ℕ). w % 0x1000_0000 % 0x400_0000 < limit_room (limit_kind_at x)) (sym f) h))
 
-limit_at_lem : (l : LimitWord) (which : ℕ) → limit_word l / 0x400_0000 % 4 ≡ which → limit_at which (limit_word l) ≡ l → limit_of (limit_word l) ≡ l
-limit_at_lem l which e f = ap (λ (x : ℕ). limit_at x (limit_word l)) e ∙ f
+limit_at_lem : (l : LimitWord) (which : ℕ) → limit_word l / 0x400_0000 % 4 ≡ which → limit_at (limit_kind_at which) (limit_word l) ≡ l → limit_of (limit_word l) ≡ l
+limit_at_lem l which e f = ap (λ (x : ℕ). limit_at (limit_kind_at x) (limit_word l)) e ∙ f
 
 limit_trip : (l : LimitWord) → InFields l → Plain Limited (limit_word l) × (limit_of (limit_word l) ≡ l)
 limit_trip (Floor n) h =
@@ -52,7 +52,7 @@ limit_trip (Rule n) h =
 two_gates : (w : ℕ) → from_of w * 0x80 + to_of w ≡ w % 0x4000
 two_gates w = let p : w / 0x80 / 0x80 ≡ w / 0x4000 = omega arith in omega arith
 
-limit_whole : (w which : ℕ) → w / 0x1000_0000 ≡ 8 → w / 0x400_0000 % 4 ≡ which → w % 0x400_0000 < limit_room which → limit_word (limit_at which w) ≡ w
+limit_whole : (w which : ℕ) → w / 0x1000_0000 ≡ 8 → w / 0x400_0000 % 4 ≡ which → w % 0x400_0000 < limit_room (limit_kind_at which) → limit_word (limit_at (limit_kind_at which) w) ≡ w
 limit_whole w zero e f h = omega arith
 limit_whole w (suc zero) e f h = omega arith
 limit_whole w (suc (suc zero)) e f h =
@@ -68,9 +68,9 @@ limit_back w h =
     let a = top Limited w h in
     let p : w % 0x1000_0000 / 0x400_0000 ≡ w / 0x400_0000 % 4 = omega arith in
     let q : w % 0x1000_0000 % 0x400_0000 ≡ w % 0x400_0000 = omega arith in
-    let b = leb-false (limit_room (w % 0x1000_0000 / 0x400_0000)) (w % 0x1000_0000 % 0x400_0000) (low Limited w h) in
-    let c : w % 0x1000_0000 % 0x400_0000 < limit_room (w / 0x400_0000 % 4) = subst (λ (x : ℕ). w % 0x1000_0000 % 0x400_0000 < limit_room x) p b in
-    limit_whole w (w / 0x400_0000 % 4) (omega arith) refl (subst (λ (x : ℕ). x < limit_room (w / 0x400_0000 % 4)) q c)
+    let b = leb-false (limit_room (limit_kind_at (w % 0x1000_0000 / 0x400_0000))) (w % 0x1000_0000 % 0x400_0000) (low Limited w h) in
+    let c : w % 0x1000_0000 % 0x400_0000 < limit_room (limit_kind_at (w / 0x400_0000 % 4)) = subst (λ (x : ℕ). w % 0x1000_0000 % 0x400_0000 < limit_room (limit_kind_at x)) p b in
+    limit_whole w (w / 0x400_0000 % 4) (omega arith) refl (subst (λ (x : ℕ). x < limit_room (limit_kind_at (w / 0x400_0000 % 4))) q c)
 
 pub reply_trips : ReplyTrips
 reply_trips = record {

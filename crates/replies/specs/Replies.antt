@@ -1,8 +1,10 @@
 -- The layout of a reply's words.
-use Rattle.std.specs.Prelude.{ℕ, ◌+◌, ◌-◌, ◌*◌, ◌/◌, ◌%◌, ◌<◌, cond, ℤ, pos, negsuc, ◌==◌, nat_lt}
+use Rattle.std.specs.Prelude.{ℕ, ◌+◌, ◌-◌, ◌*◌, ◌/◌, ◌%◌, ◌<◌, cond, ℤ, pos, negsuc, nat_lt}
 use Rattle.replies.specs.declared.LimitWord.{LimitWord}
 use Rattle.replies.specs.declared.LimitWord.TheVariants.{Floor, Ceiling, Clock, Rule}
-use Rattle.words.specs.Layout.{from_of, to_of}
+use Rattle.words.specs.declared.LimitKind.{LimitKind}
+use Rattle.words.specs.declared.LimitKind.TheVariants.{Floor as FloorKind, Ceiling as CeilingKind, Clock as ClockKind, Rule as RuleKind}
+use Rattle.words.specs.Layout.{from_of, to_of, limit_kind_of}
 
 -- two's complement of 16 bits: the numbers from 2 ^ 15 on stand for those below 0, 2 ^ 16 less
 abbrev pub signed : ℕ → ℤ
@@ -28,14 +30,14 @@ refusal_number_of w = w / 0x10_0000 % 0x100
 abbrev pub refusal_place_of : ℕ → ℕ
 refusal_place_of w = w % 0x10_0000
 
-abbrev pub limit_at : ℕ → ℕ → LimitWord
-limit_at which w =
-    cond (which == 0) (Floor (w % 0x200))
-    (cond (which == 1) (Ceiling (w % 0x200))
-    (cond (which == 2) (Clock (from_of w) (to_of w)) (Rule (w % 0x400))))
+abbrev pub limit_at : LimitKind → ℕ → LimitWord
+limit_at FloorKind w = Floor (w % 0x200)
+limit_at CeilingKind w = Ceiling (w % 0x200)
+limit_at ClockKind w = Clock (from_of w) (to_of w)
+limit_at RuleKind w = Rule (w % 0x400)
 
 abbrev pub limit_of : ℕ → LimitWord
-limit_of w = limit_at (w / 0x400_0000 % 4) w
+limit_of w = limit_at (limit_kind_of w) w
 
 -- the words of each kind
 abbrev pub cost_word : ℕ → ℕ

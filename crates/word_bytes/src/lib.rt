@@ -11,24 +11,17 @@ use std::alloc::{AllocError, Global};
 pub fn word_at(bytes: &[u8], i: usize) -> Option<u32>
     ensures { result ≡ slice_get (words_of bytes.now) i }
 {
-    if i >= bytes.len() / 4 {
-        return None;
-    }
-    let at = 4 * i;
-    Some(u32::from_le_bytes([bytes[at], bytes[at + 1], bytes[at + 2], bytes[at + 3]]))
+    let (fours, _) = bytes.as_chunks::<4>();
+    fours.get(i).copied().map(u32::from_le_bytes)
 }
 
 // The words, without what is left over after the last.
+#[tactic(auto, using(crate::proofs::Fours::by_fours))]
 pub fn read_words(heap: Global, bytes: &[u8]) -> Result<Vec<u32>, AllocError>
     ensures { IfOk result (λ v. v.items ≡ words_of bytes.now) }
 {
-    let mut words = Vec::new(heap);
-    let mut i = 0;
-    while let Some(word) = word_at(bytes, i) {
-        words.push(word)?;
-        i += 1;
-    }
-    Ok(words)
+    let (fours, _) = bytes.as_chunks::<4>();
+    fours.iter().copied().map(u32::from_le_bytes).collect(heap)
 }
 
 // Writes the four bytes of word i; false, and nothing written, where they do not fit.
@@ -38,17 +31,16 @@ pub fn put_word(bytes: &mut [u8], i: usize, word: u32) -> bool
     if i >= bytes.len() / 4 {
         return false;
     }
+    // By its range: after `as_chunks_mut` or `get_mut` no proof knows what the other bytes are.
     let start = 4 * i;
     bytes[start..start + 4].copy_from_slice(&word.to_le_bytes());
     true
 }
 
 // The bytes of words read as those words, and whole words give their bytes.
-pub fn read_back() -> u8
+pub fn read_back()
     ensures { ReadBack }
-{
-    0
-}
+{}
 
 #[cfg(test)]
 mod tests {

@@ -1,6 +1,8 @@
 -- The layout of a file's words, as numbers: kind times 2 ^ 28, and the fields below.
-use Rattle.std.specs.Prelude.{◌≡◌, ℕ, ◌+◌, ◌-◌, ◌*◌, ◌/◌, ◌%◌, Bool, false, cond, Some, None, Option, ◌==◌, nat_le, nat_lt}
+use Rattle.std.specs.Prelude.{◌≡◌, ℕ, ◌+◌, ◌-◌, ◌*◌, ◌/◌, ◌%◌, Bool, false, cond, Some, None, Option, ◌==◌, nat_le}
 use Rattle.words.specs.declared.Kind.{Kind}
+use Rattle.words.specs.declared.LimitKind.{LimitKind}
+use Rattle.words.specs.declared.LimitKind.TheVariants.{Floor, Ceiling, Clock as ClockLimit, Rule}
 use Rattle.words.specs.declared.Kind.TheVariants.{End, Gate, Wire, Fill, Clock, Cost, Label, Refused, Limited, Other}
 
 -- the kind that the top four bits name
@@ -47,9 +49,19 @@ clock_of w = w % 0x100_0000
 abbrev pub count_of : ℕ → ℕ
 count_of w = w % 0x1000_0000
 
+-- which limit a limit states: the two bits below the kind name it
+abbrev pub limit_kind_at : ℕ → LimitKind
+limit_kind_at n = cond (n == 0) Floor (cond (n == 1) Ceiling (cond (n == 2) ClockLimit Rule))
+
+abbrev pub limit_kind_of : ℕ → LimitKind
+limit_kind_of w = limit_kind_at (w / 0x400_0000 % 4)
+
 -- what the fields of a limit are below: the wire's number of a floor or a ceiling, the two gates of the clock, the index of a rule
-abbrev pub limit_room : ℕ → ℕ
-limit_room which = cond (nat_lt which 2) 0x200 (cond (which == 2) 0x4000 0x400)
+abbrev pub limit_room : LimitKind → ℕ
+limit_room Floor = 0x200
+limit_room Ceiling = 0x200
+limit_room ClockLimit = 0x4000
+limit_room Rule = 0x400
 
 -- a bit below the kind is set that the kind does not name: 16 and up of a gate, 14 and up of a wire, 24 and up of a clock,
 -- 23 and up of a label, and of a limit those between its fields and the two bits that say which it is
@@ -62,7 +74,7 @@ stray_in Clock low = nat_le 0x100_0000 low
 stray_in Cost low = false
 stray_in Label low = nat_le 0x80_0000 low
 stray_in Refused low = false
-stray_in Limited low = nat_le (limit_room (low / 0x400_0000)) (low % 0x400_0000)
+stray_in Limited low = nat_le (limit_room (limit_kind_at (low / 0x400_0000))) (low % 0x400_0000)
 stray_in Other low = false
 
 abbrev pub stray : ℕ → Bool

@@ -3,8 +3,9 @@
 
 ghost use Rattle.std.specs.Prelude.{◌≡◌, ◌<◌, ◌≤◌};
 ghost use Rattle.words.specs.Trips.{Trips};
-ghost use Rattle.words.specs.Layout.{kind_of, stray, limit_room, delay_of, from_of, to_of, price_of, registers_of, floor_of, ceiling_of, clock_of, count_of, gate_word, wire_word, fill_word, clock_word, end_word, Makes};
+ghost use Rattle.words.specs.Layout.{kind_of, stray, limit_kind_of, limit_room, delay_of, from_of, to_of, price_of, registers_of, floor_of, ceiling_of, clock_of, count_of, gate_word, wire_word, fill_word, clock_word, end_word, Makes};
 
+pub mod fields;
 pub mod reader;
 #[cfg(test)]
 mod tests;
@@ -23,6 +24,29 @@ pub enum Kind {
     Other,
 }
 
+// What a limit's word limits: a wire's registers from below or from above, the clock between two gates, or a rule.
+#[derive(Clone, Copy, PartialEq, Eq, Debug)]
+pub enum LimitKind {
+    Floor,
+    Ceiling,
+    Clock,
+    Rule,
+}
+
+impl LimitKind {
+    // What the fields of such a limit are below: a wire's number, two gates, or a rule's index.
+    fn room(self) -> u32
+        ensures { result ≡ limit_room self }
+    {
+        match self {
+            LimitKind::Floor | LimitKind::Ceiling => 0x200,
+            LimitKind::Clock => 0x4000,
+            LimitKind::Rule => 0x400,
+        }
+    }
+}
+
+// A function and no `From<u32>`: the kind is one field of a word among others, and not what the word is.
 pub fn kind_of(word: u32) -> Kind
     ensures { result ≡ kind_of word }
 {
@@ -50,75 +74,77 @@ pub fn has_stray(word: u32) -> bool
         Kind::Wire => low >= 0x4000,
         Kind::Clock => low >= 0x100_0000,
         Kind::Label => low >= 0x80_0000,
-        Kind::Limited => low % 0x400_0000 >= limit_room(low / 0x400_0000),
+        Kind::Limited => low % 0x400_0000 >= limit_kind(low).room(),
         _ => false,
     }
 }
 
-// What the fields of a limit are below: a wire's number, two gates, or a rule's index.
-fn limit_room(which: u32) -> u32
-    ensures { result ≡ limit_room which }
+// Which limit a limit's word states.
+pub fn limit_kind(word: u32) -> LimitKind
+    ensures { result ≡ limit_kind_of word }
 {
-    match which {
-        0 | 1 => 0x200,
-        2 => 0x4000,
-        _ => 0x400,
+    match fields::LIMIT.of(word) {
+        0 => LimitKind::Floor,
+        1 => LimitKind::Ceiling,
+        2 => LimitKind::Clock,
+        _ => LimitKind::Rule,
     }
 }
 
 pub fn delay(word: u32) -> u16
     ensures { result ≡ delay_of word }
 {
-    (word % 0x1_0000) as u16
+    fields::DELAY.of(word) as u16
 }
 
 pub fn from(word: u32) -> u8
     ensures { result ≡ from_of word }
 {
-    (word / 0x80 % 0x80) as u8
+    fields::FROM.of(word) as u8
 }
 
 pub fn to(word: u32) -> u8
     ensures { result ≡ to_of word }
 {
-    (word % 0x80) as u8
+    fields::TO.of(word) as u8
 }
 
+// A fill gives the price less 1.
 pub fn price(word: u32) -> u8
     ensures { result ≡ price_of word }
 {
-    (word / 0x100_0000 % 16 + 1) as u8
+    fields::PRICE.of(word) as u8 + 1
 }
 
 pub fn registers(word: u32) -> u8
     ensures { result ≡ registers_of word }
 {
-    (word / 0x1_0000 % 0x100) as u8
+    fields::REGISTERS.of(word) as u8
 }
 
 pub fn floor(word: u32) -> u8
     ensures { result ≡ floor_of word }
 {
-    (word / 0x100 % 0x100) as u8
+    fields::FLOOR.of(word) as u8
 }
 
 pub fn ceiling(word: u32) -> u8
     ensures { result ≡ ceiling_of word }
 {
-    (word % 0x100) as u8
+    fields::CEILING.of(word) as u8
 }
 
 pub fn clock(word: u32) -> u32
     ensures { result ≡ clock_of word }
 {
-    word % 0x100_0000
+    fields::CLOCK.of(word)
 }
 
 // How many words stand before an end.
 pub fn count(word: u32) -> u32
     ensures { result ≡ count_of word }
 {
-    word % 0x1000_0000
+    fields::COUNT.of(word)
 }
 
 pub fn gate_word(delay: u16) -> u32
@@ -131,46 +157,34 @@ pub fn gate_word(delay: u16) -> u32
 pub fn wire_word(from: u8, to: u8) -> Option<u32>
     ensures { Makes ((from < 0x80) × (to < 0x80)) (wire_word from to) result }
 {
-    if from >= 0x80 || to >= 0x80 {
-        return None;
-    }
-    Some(0x2000_0000 + u32::from(from) * 0x80 + u32::from(to))
+    let ends = fields::FROM.put(u32::from(from))? + fields::TO.put(u32::from(to))?;
+    Some(0x2000_0000 + ends)
 }
 
 // None where the price is not 1 to 16.
 pub fn fill_word(price: u8, registers: u8, floor: u8, ceiling: u8) -> Option<u32>
     ensures { Makes ((1 ≤ price) × (price ≤ 16)) (fill_word price registers floor ceiling) result }
 {
-    if price < 1 || price > 16 {
-        return None;
-    }
-    let above = (u32::from(price) - 1) * 0x100_0000 + u32::from(registers) * 0x1_0000;
-    Some(0x3000_0000 + above + u32::from(floor) * 0x100 + u32::from(ceiling))
+    let above = fields::PRICE.put(u32::from(price).checked_sub(1)?)?;
+    let bounds = fields::FLOOR.put(u32::from(floor))? + fields::CEILING.put(u32::from(ceiling))?;
+    Some(0x3000_0000 + above + fields::REGISTERS.put(u32::from(registers))? + bounds)
 }
 
 // None where the clock is above 16,777,215.
 pub fn clock_word(clock: u32) -> Option<u32>
     ensures { Makes (clock < 0x100_0000) (clock_word clock) result }
 {
-    if clock >= 0x100_0000 {
-        return None;
-    }
-    Some(0x4000_0000 + clock)
+    Some(0x4000_0000 + fields::CLOCK.put(clock)?)
 }
 
 // None where the count has more than 28 bits.
 pub fn end_word(count: u32) -> Option<u32>
     ensures { Makes (count < 0x1000_0000) (end_word count) result }
 {
-    if count >= 0x1000_0000 {
-        return None;
-    }
-    Some(count)
+    fields::COUNT.put(count)
 }
 
 // Made and taken apart, both ways: see specs/Trips.antt.
-pub fn round_trips() -> u8
+pub fn round_trips()
     ensures { Trips }
-{
-    0
-}
+{}

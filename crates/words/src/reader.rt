@@ -18,29 +18,19 @@ pub enum Record<'a> {
 fn fills(words: &[u32], at: usize) -> bool
     ensures { result ≡ fills_at words.now at }
 {
-    if at < words.len() {
-        match crate::kind_of(words[at]) {
-            Kind::Fill => true,
-            _ => false,
-        }
-    } else {
-        false
-    }
+    words
+        .get(at)
+        .is_some_and(|word| crate::kind_of(*word) == Kind::Fill)
 }
 
 // The record that starts at `at`, if one does.
 pub fn record_at<'a>(words: &'a [u32], at: usize) -> Option<Record<'a>>
     ensures { Starts words.now at result }
 {
-    if at >= words.len() {
-        return None;
-    }
-    match crate::kind_of(words[at]) {
+    match crate::kind_of(*words.get(at)?) {
         Kind::Gate => Some(Record::Gate(&words[at..at + 1], at)),
-        Kind::Wire => {
-            let end = if fills(words, at + 1) { at + 2 } else { at + 1 };
-            Some(Record::Wire(&words[at..end], at))
-        }
+        Kind::Wire if fills(words, at + 1) => Some(Record::Wire(&words[at..at + 2], at)),
+        Kind::Wire => Some(Record::Wire(&words[at..at + 1], at)),
         Kind::Clock => Some(Record::Clock(&words[at..at + 1], at)),
         _ => None,
     }

@@ -14,9 +14,9 @@ body_of (v ∷ vs) = wire_word v.from v.to ∷ fill_word v.price v.registers v.f
 abbrev pub file_of : Netlist → List ℕ
 file_of n = map gate_word n.delays ++ (body_of n.wires ++ (clock_word n.clock ∷ end_word (length n.delays + length (body_of n.wires) + 1) ∷ []))
 
--- from the start on, the memory holds these words; all else is as it was
-abbrev pub Puts : List ℕ → ℕ → List ℕ → List ℕ → Type 0
-Puts old start xs out = out ≡ take start old ++ (xs ++ drop (start + length xs) old)
+-- the memory begins with these words; all else is as it was
+abbrev pub Puts : List ℕ → List ℕ → List ℕ → Type 0
+Puts old xs out = out ≡ xs ++ drop (length xs) old
 
 -- few gates and wires, which join the gates, and a clock in range
 pub record Tabled (delays : List ℕ) (wires : List (Option Wire)) (clock : ℕ) : Type 0 where

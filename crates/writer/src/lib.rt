@@ -1,7 +1,7 @@
 // Puts the words of a netlist into a memory: gates, wires with their fills, clock and end.
 #![tactic(auto)]
 
-ghost use Rattle.std.specs.Prelude.{◌≡◌, ℕ, ◌+◌, ◌*◌, ◌<◌, ◌≤◌, map, length};
+ghost use Rattle.std.specs.Prelude.{◌≡◌, ℕ, [], ◌∷◌, ◌+◌, ◌*◌, ◌<◌, ◌≤◌, map, length};
 ghost use Rattle.std.specs.List.{AllByRecursion};
 ghost use Rattle.model.specs.Circuit.{kept};
 ghost use Rattle.words.specs.Layout.{gate_word};
@@ -13,32 +13,38 @@ use model::Wire;
 // Puts a word for each gate at the start of the memory.
 fn put_gates(delays: &[u16], out: &mut [u32])
     requires { length delays.now ≤ length out.old }
-    ensures words { Puts out.old 0 (map gate_word delays.now) out.new }
-    ensures short { AllByRecursion (λ (d : ℕ). d < 0x1_0000) delays.now }
+    ensures { Puts out.old (map gate_word delays.now) out.new }
 {
+    // By index: after a `zip` over `iter_mut` no proof knows what the memory holds.
     for (i, delay) in delays.iter().enumerate() {
         out[i] = words::gate_word(*delay);
     }
 }
 
-// Puts two words for each wire that is not dropped, and answers where they end.
-fn put_wires(wires: &[Option<Wire>], out: &mut [u32], start: usize) -> usize
-    requires room { start + 2 * length (kept wires.now) ≤ length out.old }
-    requires joins { AllByRecursion (Joins 127) (kept wires.now) }
-    ensures words { Puts out.old start (body_of (kept wires.now)) out.new }
-    ensures end { result ≡ start + 2 * length (kept wires.now) }
+// The wire word and the fill word of a wire.
+fn words_of(wire: &Wire) -> [u32; 2]
+    requires { Joins 127 wire.now }
+    ensures { result ≡ body_of (wire.now ∷ []) }
 {
-    let mut at = start;
-    for wire in wires {
-        if let Some(w) = wire {
-            let ends = words::wire_word(w.from, w.to).unwrap();
-            let fill = words::fill_word(w.price, w.registers, w.floor, w.ceiling).unwrap();
-            out[at] = ends;
-            out[at + 1] = fill;
-            at += 2;
-        }
+    [
+        words::wire_word(wire.from, wire.to).unwrap(),
+        words::fill_word(wire.price, wire.registers, wire.floor, wire.ceiling).unwrap(),
+    ]
+}
+
+// Puts two words for each wire that is not dropped at the start of the memory, and answers how many.
+fn put_wires(wires: &[Option<Wire>], out: &mut [u32]) -> usize
+    requires room { 2 * length (kept wires.now) ≤ length out.old }
+    requires joins { AllByRecursion (Joins 127) (kept wires.now) }
+    ensures words { Puts out.old (body_of (kept wires.now)) out.new }
+    ensures count { result ≡ 2 * length (kept wires.now) }
+{
+    // By index: after a `zip` over `chunks_exact_mut` no proof knows that either.
+    for (i, wire) in wires.iter().flatten().enumerate() {
+        let at = 2 * i;
+        out[at..at + 2].copy_from_slice(&words_of(wire));
     }
-    at
+    2 * wires.iter().flatten().count()
 }
 
 // Puts the file of gates, wires and clock at the start of the memory; answers its length.
@@ -48,7 +54,7 @@ pub fn put_file(delays: &[u16], wires: &[Option<Wire>], clock: u32, out: &mut [u
     ensures { FileIn (record { delays = delays.now; wires = kept wires.now; clock = clock }) out.old result out.new }
 {
     put_gates(delays, out);
-    let at = put_wires(wires, out, delays.len());
+    let at = delays.len() + put_wires(wires, &mut out[delays.len()..]);
     out[at] = words::clock_word(clock).unwrap();
     out[at + 1] = words::end_word((at + 1) as u32).unwrap();
     at + 2

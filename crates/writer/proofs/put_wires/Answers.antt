@@ -1,49 +1,42 @@
-use Rattle.std.proofs.Common.{is_some, ap, arith, length-set}
-use Rattle.words.specs.Netlist.{Joins}
-use Rattle.words.proofs.Both.{made}
+use Rattle.std.proofs.Common.{◌∙◌, arith, length, List, subst, sym}
+use Rattle.std.proofs.ByRecursion.{All-get_or}
+use Rattle.std.proofs.lemmas.List.{take_all, length_push}
+use Rattle.words.specs.Netlist.{Joins, Wire}
+use Rattle.model.specs.Circuit.{kept}
+use Rattle.writer.specs.Writing.{body_of, Puts}
+use Rattle.writer.proofs.Kept.{turn, end, count}
 use Rattle.writer.proofs.Putting as lemma
 use Rattle.writer.proofs.put_wires.Goals as goal
-use Rattle.writer.proofs.put_wires.Goals.{in-Some, in_default}
 
-pub loop-wire-init : goal.loop-wire-init
-loop-wire-init c = lemma.wired_none c.args.wires.now c.args.out.now c.args.start
-
-pub unwrap-ends-requires : goal.unwrap-ends-requires
-unwrap-ends-requires c =
-    let j = lemma.kept_all (Joins 127) c.args.wires.now c.loop-wire.wire-index c.in-Some.w c.in-Some.is c.requires.joins in
-    ap is_some (made c.wire_word.result (omega (arith, j.from), omega (arith, j.to)) c.wire_word.ensures)
-
-pub unwrap-fill-requires : goal.unwrap-fill-requires
-unwrap-fill-requires c =
-    let j = lemma.kept_all (Joins 127) c.args.wires.now c.loop-wire.wire-index c.in-Some.w c.in-Some.is c.requires.joins in
-    ap is_some (made c.fill_word.result (j.priced, j.cheap) c.fill_word.ensures)
-
-pub offset_bounds-out-at : goal.offset_bounds-out-at
-offset_bounds-out-at c = let r = lemma.wired_room c.args.wires.now c.loop-wire.wire-index c.args.out.now c.args.start c.loop-wire.out c.loop-wire.at c.loop-wire.invariant c.loop-wire-test.true c.in-Some.w c.in-Some.is c.requires.room in let k = c.loop-wire.auto.out in omega arith
-
-pub bounds-out-at : goal.bounds-out-at
-bounds-out-at c = let r = lemma.wired_room c.args.wires.now c.loop-wire.wire-index c.args.out.now c.args.start c.loop-wire.out c.loop-wire.at c.loop-wire.invariant c.loop-wire-test.true c.in-Some.w c.in-Some.is c.requires.room in let k = c.loop-wire.auto.out in omega arith
-
-pub overflow_add-out : goal.overflow_add-out
-overflow_add-out c = let r = lemma.wired_room c.args.wires.now c.loop-wire.wire-index c.args.out.now c.args.start c.loop-wire.out c.loop-wire.at c.loop-wire.invariant c.loop-wire-test.true c.in-Some.w c.in-Some.is c.requires.room in let k = c.loop-wire.auto.out in omega arith
-
-pub offset_bounds-out-at-in-Some : goal.offset_bounds-out-at-in-Some
-offset_bounds-out-at-in-Some c = let r = lemma.wired_room c.args.wires.now c.loop-wire.wire-index c.args.out.now c.args.start c.loop-wire.out c.loop-wire.at c.loop-wire.invariant c.loop-wire-test.true c.in-Some.w c.in-Some.is c.requires.room in let k = c.loop-wire.auto.out in omega arith
+pub overflow_mul-at : goal.overflow_mul-at
+overflow_mul-at c = let t = turn c.into_iter-i-iterator.result c.args.wires.now (cc) (cc) (cc) (cc) (cc) c.loop-i.yielded _ _ c.loop-i.yielded_by c.in-Some.i c.in-Some.wire c.in-Some.is c.next.ensures.steps in omega arith
 
 pub overflow_add-at : goal.overflow_add-at
-overflow_add-at c = let r = lemma.wired_room c.args.wires.now c.loop-wire.wire-index c.args.out.now c.args.start c.loop-wire.out c.loop-wire.at c.loop-wire.invariant c.loop-wire-test.true c.in-Some.w c.in-Some.is c.requires.room in let k = c.loop-wire.auto.out in omega arith
+overflow_add-at c = let t = turn c.into_iter-i-iterator.result c.args.wires.now (cc) (cc) (cc) (cc) (cc) c.loop-i.yielded _ _ c.loop-i.yielded_by c.in-Some.i c.in-Some.wire c.in-Some.is c.next.ensures.steps in omega arith
 
-pub bounds-out-at-in-Some : goal.bounds-out-at-in-Some
-bounds-out-at-in-Some c = let r = lemma.wired_room c.args.wires.now c.loop-wire.wire-index c.args.out.now c.args.start c.loop-wire.out c.loop-wire.at c.loop-wire.invariant c.loop-wire-test.true c.in-Some.w c.in-Some.is c.requires.room in let k = c.loop-wire.auto.out in simp length-set (omega arith)
+pub offset_bounds-out-at : goal.offset_bounds-out-at
+offset_bounds-out-at c = let t = turn c.into_iter-i-iterator.result c.args.wires.now (cc) (cc) (cc) (cc) (cc) c.loop-i.yielded _ _ c.loop-i.yielded_by c.in-Some.i c.in-Some.wire c.in-Some.is c.next.ensures.steps in omega arith
 
-pub loop-wire-preserved : goal.loop-wire-preserved
-loop-wire-preserved c =
-    elim c.match-wire.branch [
-      | in-Some w ↦ (let j = lemma.kept_all (Joins 127) c.args.wires.now c.loop-wire.wire-index w.in-Some.w w.in-Some.is c.requires.joins in let g = lemma.wired_some c.args.wires.now c.loop-wire.wire-index c.args.out.now c.args.start c.loop-wire.out c.loop-wire.at c.loop-wire.invariant c.loop-wire-test.true w.in-Some.w w.unwrap-ends.result w.unwrap-fill.result w.in-Some.is c.requires.room (lemma.only w.wire_word.result w.unwrap-ends.ensures (made w.wire_word.result (omega (arith, j.from), omega (arith, j.to)) w.wire_word.ensures)) (lemma.only w.fill_word.result w.unwrap-fill.ensures (made w.fill_word.result (j.priced, j.cheap) w.fill_word.ensures)) in rw (w.out-is, w.at-is) g)
-      | in_default w ↦ (let g = lemma.wired_skip c.args.wires.now c.loop-wire.wire-index c.args.out.now c.args.start c.loop-wire.out c.loop-wire.at c.loop-wire.invariant c.loop-wire-test.true w.in_default.is in rw (w.out-is, w.at-is) g)
-    ]
+pub slice_bounds-copy_from_slice-end : goal.slice_bounds-copy_from_slice-end
+slice_bounds-copy_from_slice-end c = let t = turn c.into_iter-i-iterator.result c.args.wires.now (cc) (cc) (cc) (cc) (cc) c.loop-i.yielded _ _ c.loop-i.yielded_by c.in-Some.i c.in-Some.wire c.in-Some.is c.next.ensures.steps in omega arith
 
-pub returns : goal.returns
-returns c =
-    let g = lemma.wired_all c.args.wires.now c.loop-wire.wire-index c.args.out.now c.args.start c.loop-wire.out c.loop-wire.at c.loop-wire.invariant c.loop-wire-test.false in
-    record { words = g.0; end = g.1 }
+pub words_of-requires : goal.words_of-requires
+words_of-requires c =
+    let t = turn c.into_iter-i-iterator.result c.args.wires.now (cc) (cc) (cc) (cc) (cc) c.loop-i.yielded _ _ c.loop-i.yielded_by c.in-Some.i c.in-Some.wire c.in-Some.is c.next.ensures.steps in
+    subst (Joins 127) (sym t.2) (All-get_or (Joins 127) (kept c.args.wires.now) _ _ t.0 c.requires.joins)
+
+pub loop-i-preserved : goal.loop-i-preserved
+loop-i-preserved c =
+    let t = turn c.into_iter-i-iterator.result c.args.wires.now (cc) (cc) (cc) (cc) (cc) c.loop-i.yielded _ _ c.loop-i.yielded_by c.in-Some.i c.in-Some.wire c.in-Some.is c.next.ensures.steps in
+    lemma.wired_more (kept c.args.wires.now) (length c.loop-i.yielded) c.in-Some.i c.in-Some.wire.now c.args.out.now c.loop-i.out c.copy_from_slice.new.self _ _ _ c.loop-i.invariant t (c.copy_from_slice.ensures.after ∙ c.words_of.ensures) (omega arith) (omega arith) (length_push c.loop-i.yielded _)
+
+pub returns-clause-words : goal.returns-clause-words
+returns-clause-words c =
+    let t = end c.into_iter-i-iterator.result c.args.wires.now (cc) (cc) (cc) (cc) (cc) c.loop-i.yielded _ _ c.loop-i.yielded_by c.in-None.is c.next.ensures.steps in
+    subst (λ (vs : List Wire). Puts c.args.out.now (body_of vs) c.loop-i.out) (take_all _ (kept c.args.wires.now) (omega arith)) c.loop-i.invariant
+
+pub overflow_mul-result : goal.overflow_mul-result
+overflow_mul-result c = let e = count c.args.wires.now (cc) (cc) (cc) (cc) _ c.count.ensures.ran in omega arith
+
+pub returns-clause-count : goal.returns-clause-count
+returns-clause-count c = let e = count c.args.wires.now (cc) (cc) (cc) (cc) _ c.count.ensures.ran in omega arith

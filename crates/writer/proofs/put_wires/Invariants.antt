@@ -1,5 +1,7 @@
-use Rattle.writer.proofs.Putting.{Wired}
+use Rattle.std.proofs.Common.{length, take}
+use Rattle.model.specs.Circuit.{kept}
+use Rattle.writer.specs.Writing.{Puts, body_of}
 use Rattle.writer.proofs.put_wires.Given as goal
 
-abbrev pub invariant-loop-wire : goal.invariant-loop-wire
-invariant-loop-wire l = Wired l.wires l.wire-index l.initial.out l.start l.out l.at
+abbrev pub invariant-loop-i : goal.invariant-loop-i
+invariant-loop-i l = Puts l.initial.out (body_of (take (length l.yielded) (kept l.wires))) l.out
