@@ -2,6 +2,6 @@ pub mod Near
 pub mod Walks
 pub mod Few
 pub mod Good
-pub mod Fairs
+pub mod Below
 pub mod Steps
 pub mod Turns

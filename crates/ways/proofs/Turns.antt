@@ -3,7 +3,7 @@ use Rattle.std.proofs.Common.{◌≡◌, ℕ, ◌+◌, ◌<◌, ◌≤◌, Bool,
 use Rattle.std.proofs.lemmas.Bool.{both_ways, false≢true, cases_eq, cases_lt}
 use Rattle.ways.specs.Laws.{Kind, Laws}
 use Rattle.ways.specs.Walks.{Leads, Least, long, total, known, row, near, past, Sound, Best}
-use Rattle.ways.specs.Keeps.{Good, Kept, Short, Moved, Tried, Changed, After, Begun}
+use Rattle.ways.specs.Keeps.{Good, Short, Moved, Tried, Changed, After, Begun}
 use Rattle.ways.specs.declared.net.Arc.{Arc}
 use Rattle.ways.specs.declared.walk.Way.{Way}
 use Rattle.ways.proofs.Near.{some_none, some_same, near_refl, near_trans, near_past, above_trans}
@@ -19,13 +19,6 @@ module _ {L : Type 0} {K : Kind L} (laws : Laws K) (at : ℕ → Option (Arc L))
   pub total_join : (ps qs : List ℕ) → total K at (ps ++ qs) ≡ K.sum (total K at qs) (total K at ps)
   total_join [] qs = sym (laws.zero_right (total K at qs))
   total_join (a ∷ ps) qs = ap (λ t. K.sum t (long K (at a))) (total_join ps qs) ∙ laws.assoc (total K at qs) (total K at ps) (long K (at a))
-
-  pub tried_start : (old : List (Way L)) → Kept K at s old → Tried K at s 0 old old
-  tried_start old kept = record {
-    kept = kept;
-    lower = λ v. near_refl laws (known old v).distance;
-    settled = λ a x h e. absurd (let z : ⊥ = omega arith in z);
-  }
 
   module _ (i : ℕ) (old new : List (Way L)) (t : Tried K at s i old new) where
     tried_more : (new' : List (Way L)) → Moved K at s i new new' → Tried K at s (i + 1) old new'

@@ -7,7 +7,7 @@ ghost use Rattle.ways.specs.declared.net.Arc.{Arc};
 use crate::distance::Distance;
 
 // An arc from the vertex `tail` to the vertex `head`.
-#[derive(Clone, Copy)]
+#[derive(Clone, Copy, PartialEq, Eq, Debug)]
 pub struct Arc<L> {
     pub tail: usize,
     pub head: usize,

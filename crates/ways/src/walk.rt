@@ -7,14 +7,14 @@ use crate::net::Net;
 use arrayvec::ArrayVec;
 
 // What a search knows of a vertex: its distance, if a way to it was found, and the arcs of that way in their order.
-#[derive(Default, Drop)]
+#[derive(Default, Drop, PartialEq, Eq, Debug)]
 pub struct Way<L> {
     pub distance: Option<L>,
     pub arcs: ArrayVec<u16, 128>,
 }
 
 // The arcs of a loop below zero, in their order.
-#[derive(Drop)]
+#[derive(Drop, PartialEq, Eq, Debug)]
 pub struct Loop {
     pub arcs: ArrayVec<u16, 128>,
 }

@@ -1,7 +1,7 @@
 use Rattle.std.proofs.Common.{ℕ, ◌<◌, Decides, refl, subst, rules, tests, arith}
 use Rattle.std.proofs.lemmas.Iterator.{YieldsList-from_range, cases_from_all}
 use Rattle.ways.specs.Walks.{Fair}
-use Rattle.ways.proofs.Fairs.{decides_below}
+use Rattle.ways.proofs.Below.{decides_below}
 use Rattle.ways.proofs.net.all_fair.Goals as goal
 
 pub returns : goal.returns
