@@ -1,7 +1,9 @@
 -- Rows of the tables.
-use Rattle.std.proofs.Common.{◌≡◌, ℕ, ◌+◌, ◌*◌, ◌<◌, ◌≤◌, ◌≢◌, List, length, get_or, set, None, Option, sym, refl, ap, ◌∙◌, subst, inl, inr, ⊎_elim, mul-le-mul_right, add-mul, one-mul, arith}
-use Rattle.std.proofs.lemmas.List.{get_or-set_same, get_or-set_other, length-set}
+use Rattle.std.proofs.Common.{◌≡◌, ℕ, ◌+◌, ◌-◌, ◌*◌, ◌<◌, ◌≤◌, ◌≢◌, List, ◌++◌, length, get_or, take, drop, replicate, set, sym, refl, ap, ◌∙◌, subst, inl, inr, ⊎_elim, mul-le-mul_right, add-mul, one-mul, arith}
+use Rattle.std.proofs.lemmas.List.{get_or-set_same, get_or-set_other, length-set, length-take-le, length-replicate, length-append, length-drop, get_or_append_left, get_or-append_right, get_or-replicate, get_or-drop}
 use Rattle.std.proofs.lemmas.Bool.{cases_eq}
+use Rattle.ways.specs.Walks.{known}
+use Rattle.ways.specs.declared.walk.Way.{Way}
 use Rattle.model.specs.Circuit.{Circuit, gates}
 use Rattle.paths.specs.Rows.{Cell, Rows, Stands, Told, Outside, Beyond, Rowed}
 
@@ -15,19 +17,19 @@ row_in u m n lt =
     omega arith
 
 -- one cell more
-pub told_more : (base own m i w d : ℕ) (dist : List (Option (ℕ × ℕ))) (W D : List ℕ) → i ≡ base + m → i < length W → i < length D
-    → Stands own (get_or dist m None) w d → Told base own dist m W D → Told base own dist (m + 1) (set W i w) (set D i d)
-told_more base own m i w d dist W D at lw ld s h v lt = ⊎_elim
+pub told_more : (base own m i w d : ℕ) (found : List (Way (ℕ × ℕ))) (W D : List ℕ) → i ≡ base + m → i < length W → i < length D
+    → Stands own (known found m).distance w d → Told base own found m W D → Told base own found (m + 1) (set W i w) (set D i d)
+told_more base own m i w d found W D at lw ld s h v lt = ⊎_elim
     (λ e.
     let here : base + v ≡ i = omega arith in
     let a : get_or (set W i w) (base + v) 0 ≡ w = ap (λ k. get_or (set W i w) k 0) here ∙ get_or-set_same W i w 0 lw in
     let b : get_or (set D i d) (base + v) 0 ≡ d = ap (λ k. get_or (set D i d) k 0) here ∙ get_or-set_same D i d 0 ld in
-    subst (λ x. Stands own (get_or dist v None) x (get_or (set D i d) (base + v) 0)) (sym a)
-    (subst (λ y. Stands own (get_or dist v None) w y) (sym b) (subst (λ k. Stands own (get_or dist k None) w d) (sym e) s)))
+    subst (λ x. Stands own (known found v).distance x (get_or (set D i d) (base + v) 0)) (sym a)
+    (subst (λ y. Stands own (known found v).distance w y) (sym b) (subst (λ k. Stands own (known found k).distance w d) (sym e) s)))
     (λ ne.
     let far : base + v ≢ i = λ e. ne (omega arith) in
-    subst (λ x. Stands own (get_or dist v None) x (get_or (set D i d) (base + v) 0)) (sym (get_or-set_other W i (base + v) w 0 far))
-    (subst (λ y. Stands own (get_or dist v None) (get_or W (base + v) 0) y) (sym (get_or-set_other D i (base + v) d 0 far)) (h v (omega arith))))
+    subst (λ x. Stands own (known found v).distance x (get_or (set D i d) (base + v) 0)) (sym (get_or-set_other W i (base + v) w 0 far))
+    (subst (λ y. Stands own (known found v).distance (get_or W (base + v) 0) y) (sym (get_or-set_other D i (base + v) d 0 far)) (h v (omega arith))))
     (cases_eq v m)
 
 pub outside_none : (base n : ℕ) (W : List ℕ) → Outside base n W W
@@ -56,11 +58,18 @@ beyond_more u n V W W' lt h r =
     let k = row_in u n n lt in
     (r.0 ∙ h.0, λ i le. r.1 i (inr (omega arith)) ∙ h.1 i le)
 
-pub beyond_none : (size : ℕ) (W : List ℕ) → Beyond size W W
-beyond_none size W = (refl, λ i le. refl)
+-- the first n cells are filled, and the rest is as it was
+pub front_filled : (n x : ℕ) (W front : List ℕ) → n ≤ length W → front ≡ replicate (length (take n W)) x → ((v : ℕ) → v < n → get_or (front ++ drop n W) v 0 ≡ x) × Beyond n W (front ++ drop n W)
+front_filled n x W front le e =
+    let size : length (take n W) ≡ n = length-take-le n W le in
+    let long : length front ≡ n = ap length e ∙ length-replicate (length (take n W)) x ∙ size in (
+      λ v lt. get_or_append_left front (drop n W) 0 v (omega arith) ∙ ap (λ ys. get_or ys v 0) e ∙ get_or-replicate (length (take n W)) v x 0 (omega arith),
+      (
+        length-append front (drop n W) ∙ (let d = length-drop n W in omega arith),
+        λ i far. get_or-append_right front (drop n W) n i 0 long far ∙ get_or-drop n W (i - n) 0 ∙ ap (λ k. get_or W k 0) (let z : n + (i - n) ≡ i = omega arith in z),
+      ),
+    )
 
--- after the first row
-pub beyond_after : (n : ℕ) (V W W' : List ℕ) → 0 < n → Outside (0 * n) n V W → Beyond (n * n) W W' → Beyond (n * n) V W'
-beyond_after n V W W' lt r h =
-    let first = beyond_more 0 n V V W lt (beyond_none (n * n) V) r in
-    (h.0 ∙ first.0, λ i le. h.1 i le ∙ first.1 i le)
+-- the first row of a square lies in it
+pub beyond_square : (n : ℕ) (V W : List ℕ) → 0 < n → Beyond n V W → Beyond (n * n) V W
+beyond_square n V W some h = let k = row_in 0 n n some in (h.0, λ i far. h.1 i (omega arith))

@@ -1,17 +1,20 @@
 -- Paths of a circuit and walks over its arcs are the same.
-use Rattle.std.proofs.Common.{◌≡◌, ℕ, zero, suc, ◌+◌, ◌*◌, ◌≤◌, true, false, List, [], ◌∷◌, ◌++◌, get_or, Some, None, Option, sym, refl, ap, ◌∙◌, subst, inl, inr, arith}
+use Rattle.std.proofs.Common.{◌≡◌, ℕ, ◌+◌, ◌*◌, ◌<◌, ◌≤◌, true, false, List, [], ◌∷◌, ◌++◌, length, get_or, take, Some, None, Option, Ok, Err, Result, IsOk, sym, refl, ap, ◌∙◌, subst, inl, inr, arith}
+use Rattle.std.proofs.lemmas.List.{get_or-take}
 use Rattle.std.proofs.lemmas.Bool.{true≢false}
 use Rattle.std.proofs.lemmas.Bool.Decides.{nat_tests}
 use Rattle.ways.specs.Kinds.{delays, sooner}
-use Rattle.ways.specs.Walks.{Leads, Least, LoopBelow, total}
+use Rattle.ways.specs.Walks.{Leads, Least, LoopBelow, Best, Answered, total, known}
 use Rattle.ways.specs.declared.net.Arc.{Arc}
+use Rattle.ways.specs.declared.walk.Way.{Way}
+use Rattle.ways.specs.declared.walk.Loop.{Loop}
 use Rattle.ways.specs.KindLaws.{delay_laws}
 use Rattle.ways.proofs.Good.{total_step}
 use Rattle.ways.proofs.Turns.{leads_join, total_join}
 use Rattle.model.specs.declared.Wire.{Wire}
 use Rattle.model.specs.Circuit.{Circuit, Path, gate, step, Inner, Link, weight, delay, delay_of, gates, NoFreeLoop}
-use Rattle.paths.specs.Arcs.{arc_at, wire_arcs, circuit}
-use Rattle.paths.specs.Rows.{Cell, Rows, Stands, Told}
+use Rattle.paths.specs.Arcs.{arc_at, wire_arcs, circuit, Nearest}
+use Rattle.paths.specs.Rows.{Cell, Rows, Stands, Told, Outside, Rowed}
 use Rattle.paths.specs.Slowest.{gates_of, stations}
 use Rattle.paths.proofs.Wired.{link_arc, wired, enters}
 
@@ -94,15 +97,26 @@ module _ (ds : List ℕ) (ws : List (Option Wire)) where
         };
       })
 
+  -- a row told of the first distances found, one for each gate
+  pub row_is : (u own n : ℕ) (found : List (Way (ℕ × ℕ))) (W D W' D' : List ℕ) → Inner c u → own ≡ delay_of c u → gates c ≤ length found → Nearest ds ws u found → n ≡ gates c
+      → Told (u * n) own (take (gates c) found) n W' D' → Outside (u * n) n W W' → Outside (u * n) n D D' → Rowed c u W D W' D'
+  row_is u own n found W D W' D' i e room b same told w d = record {
+    row = λ v lt.
+        let h = subst (λ m. Told (u * m) own (take (gates c) found) m W' D') same told v lt in
+        cell_is u v (get_or W' (u * gates c + v) 0) (get_or D' (u * gates c + v) 0) own (known found v).distance i e (b.least v (omega arith))
+        (subst (λ (x : Way (ℕ × ℕ)). Stands own x.distance (get_or W' (u * gates c + v) 0) (get_or D' (u * gates c + v) 0)) (get_or-take (gates c) found v _ lt) h);
+    least = subst (λ m. Outside (u * m) m W W') same w;
+    most = subst (λ m. Outside (u * m) m D D') same d;
+  }
+
   -- no path begins at the host
-  pub host_row : (own : ℕ) (dist : List (Option (ℕ × ℕ))) (W D : List ℕ) → ((v : ℕ) → get_or dist v None ≡ None) → Told (0 * gates c) own dist (gates c) W D → Rows c 1 W D
-  host_row own dist W D none told zero v lt vn =
-      let s : Stands own None (get_or W (0 * gates c + v) 0) (get_or D (0 * gates c + v) 0) = subst (λ o. Stands own o (get_or W (0 * gates c + v) 0) (get_or D (0 * gates c + v) 0)) (none v) (told v vn) in
-      inr (λ p. let i = (begins_inner p).apart in omega arith, s.0, s.1)
-  host_row own dist W D none told (suc u) v lt vn = absurd (let z : ⊥ = omega arith in z)
+  pub host_row : (W D : List ℕ) → ((v : ℕ) → v < gates c → (get_or W v 0 ≡ 4294967295) × (get_or D v 0 ≡ 0)) → Rows c 1 W D
+  host_row W D told u v lt vn =
+      let at : u * gates c + v ≡ v = (let z : u ≡ 0 = omega arith in omega (arith, ap (λ k. k * gates c) z)) in
+      inr (λ p. let i = (begins_inner p).apart in omega arith, ap (λ k. get_or W k 0) at ∙ (told v vn).0, ap (λ k. get_or D k 0) at ∙ (told v vn).1)
 
   -- a loop below zero has no registers
-  pub no_loop : NoFreeLoop c → (s : ℕ) (ps : List ℕ) → LoopBelow delays at s ps → ⊥
+  no_loop : NoFreeLoop c → (s : ℕ) (ps : List ℕ) → LoopBelow delays at s ps → ⊥
   no_loop free s ps l = go ps l.vertex l.closed l.below
     where
       go : (ps : List ℕ) (v : ℕ) → Leads at v ps v → sooner (0, 0) (total delays at ps) ≡ false → ⊥
@@ -114,3 +128,8 @@ module _ (ds : List ℕ) (ws : List (Option Wire)) where
           = ap (λ (t : ℕ × ℕ). t.0) (total_step delays at a ps h.0 h.1) ∙ ap (λ (t : ℕ × ℕ). (total delays at ps).0 + t.0) w.is in
           let none = below_first (total delays at (a ∷ ps)) b in
           free (record { start = h.0.tail; next = h.0.head; inner = w.first; link = w.link; back = r.0; free = omega (arith, r.1) })
+
+  -- so the ways are found
+  pub none_looped : NoFreeLoop c → (s : ℕ) (found : List (Way (ℕ × ℕ))) (r : Result Unit Loop) → Answered delays at s found r → IsOk r × Best delays at s found
+  none_looped free s found (Ok u) h = (refl, h)
+  none_looped free s found (Err l) h = absurd (no_loop free s _ h)

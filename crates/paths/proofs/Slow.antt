@@ -1,42 +1,27 @@
 -- Slowest paths without registers, from one gate and then from all.
-use Rattle.std.proofs.Common.{◌≡◌, ℕ, ◌+◌, ◌<◌, ◌≤◌, true, ◌≢◌, ◌⊎◌, List, [], length, get_or, take, set, Some, None, Option, sym, refl, ap, ◌∙◌, subst, inl, inr, ⊎_elim, arith}
-use Rattle.std.proofs.lemmas.List.{get_or-set_other, length-set, take_more_set}
+use Rattle.std.proofs.Common.{◌≡◌, ℕ, ◌+◌, ◌<◌, ◌≤◌, true, ◌⊎◌, List, [], ◌∷◌, ◌++◌, reverse, length, get_or, take, Some, None, Option, sym, refl, ap, ◌∙◌, subst, inl, inr, ⊎_elim, arith}
+use Rattle.std.proofs.lemmas.List.{take_more, reverse-append, get_or_default}
 use Rattle.std.proofs.lemmas.Bool.{cases_eq}
 use Rattle.ways.specs.Kinds.{delays, sooner}
-use Rattle.ways.specs.Walks.{Least, total, row, cells}
+use Rattle.ways.specs.Walks.{Least, total, known, row}
 use Rattle.ways.specs.declared.net.Arc.{Arc}
+use Rattle.ways.specs.declared.walk.Way.{Way}
 use Rattle.ways.specs.KindLaws.{delay_laws}
-use Rattle.ways.proofs.Cells.{cells_more}
 use Rattle.model.specs.declared.Wire.{Wire}
 use Rattle.model.specs.Circuit.{Circuit, Path, gate, step, Inner, weight, delay, delay_of, gates}
 use Rattle.paths.specs.Arcs.{wire_arcs, circuit, Nearest}
-use Rattle.paths.specs.Rows.{Beyond}
 use Rattle.paths.specs.Slowest.{gates_of, Slowest, entered_of, stations, Free, Top, Reached}
 use Rattle.paths.proofs.Routes.{sooner_first, sooner_second, begins_inner, to_walk, to_path}
 
--- one cell more before those that are as they were
-pub beyond_set : (m n i x : ℕ) (V W : List ℕ) → m ≤ n → i < n → Beyond m V W → Beyond n V (set W i x)
-beyond_set m n i x V W le lt h = (
-  length-set W i x ∙ h.0,
-  λ k far. get_or-set_other W i k x 0 (let z : k ≢ i = omega arith in z) ∙ h.1 k (omega arith),
-)
-
-pub beyond_then : (m n : ℕ) (U V W : List ℕ) → m ≤ n → Beyond n U V → Beyond m V W → Beyond n U W
-beyond_then m n U V W le h k = (k.0 ∙ h.0, λ i far. k.1 i (omega arith) ∙ h.1 i far)
-
--- one gate more
-pub stations_more : (ws : List (Option Wire)) (u b p g : ℕ) (t out : List ℕ) → p + 1 < length out → g ≡ entered_of (get_or ws (get_or t (b + p) 0) None)
-    → take (p + 1) out ≡ stations ws u (cells t b p) → take (p + 1 + 1) (set out (p + 1) g) ≡ stations ws u (cells t b (p + 1))
-stations_more ws u b p g t out lt is h =
-    let more = ap (stations ws u) (cells_more t b p) in
-    let new = take_more_set out (p + 1) g lt in
-    cc
+-- one wire more
+pub stations_more : (ws : List (Option Wire)) (u i : ℕ) (arcs : List ℕ) → i < length arcs → stations ws u (reverse (take (i + 1) arcs)) ≡ stations ws u (reverse (take i arcs)) ++ (entered_of (get_or ws (get_or arcs i 0) None) ∷ [])
+stations_more ws u i arcs lt = ap (λ ps. stations ws u (reverse ps)) (take_more arcs i 0 lt) ∙ ap (stations ws u) (reverse-append (take i arcs) (get_or arcs i 0 ∷ []))
 
 -- one distance more
-pub top_more : (dist : List (Option (ℕ × ℕ))) (v d most t : ℕ) → most ≤ t → d ≤ t → Free (get_or dist v None) d → ((x k : ℕ) → x < v → get_or dist x None ≡ Some (0, k) → k ≤ most)
-    → (x k : ℕ) → x < v + 1 → get_or dist x None ≡ Some (0, k) → k ≤ t
-top_more dist v d most t lm ld free below x k lt e = ⊎_elim
-    (λ here. let s = free.0 k (subst (λ i. get_or dist i None ≡ Some (0, k)) here e) in omega arith)
+pub top_more : (found : List (Way (ℕ × ℕ))) (v d most t : ℕ) → most ≤ t → d ≤ t → Free (known found v).distance d → ((x k : ℕ) → x < v → (known found x).distance ≡ Some (0, k) → k ≤ most)
+    → (x k : ℕ) → x < v + 1 → (known found x).distance ≡ Some (0, k) → k ≤ t
+top_more found v d most t lm ld free below x k lt e = ⊎_elim
+    (λ here. let s = free.0 k (subst (λ i. (known found i).distance ≡ Some (0, k)) here e) in omega arith)
     (λ ne. let s = below x k (omega arith) e in omega arith)
     (cases_eq x v)
 
@@ -57,8 +42,8 @@ module _ (ds : List ℕ) (ws : List (Option Wire)) where
   ends_inner (step i l p) = ends_inner p
 
   -- the gate itself is at no distance
-  pub start_zero : (u : ℕ) (dist : List (Option (ℕ × ℕ))) (table lens : List ℕ) → u < length dist → Nearest ds ws u dist table lens → get_or dist u None ≡ Some (0, 0)
-  start_zero u dist table lens lt b = go (get_or dist u None) (b.least u lt)
+  pub start_zero : (u : ℕ) (found : List (Way (ℕ × ℕ))) → u < length found → Nearest ds ws u found → (known found u).distance ≡ Some (0, 0)
+  start_zero u found lt b = go (known found u).distance (b.least u lt)
     where
       go : (o : Option (ℕ × ℕ)) → Least delays at u u o → o ≡ Some (0, 0)
       go None h = absurd (h [] refl)
@@ -67,14 +52,14 @@ module _ (ds : List ℕ) (ws : List (Option Wire)) where
           ap Some (delay_laws.antisym x (0, 0) (h.1 [] refl) (subst (λ (t : ℕ × ℕ). sooner (0, 0) t ≡ true) h.0.2 up))
 
   -- no path without registers is slower than the greatest delay of a distance without
-  top_most : (u v m : ℕ) (dist : List (Option (ℕ × ℕ))) (table lens : List ℕ) → gates c ≤ length dist → Nearest ds ws u dist table lens → Top dist v m
+  top_most : (u v m : ℕ) (found : List (Way (ℕ × ℕ))) → gates c ≤ length found → Nearest ds ws u found → Top found v m
       → (x : ℕ) (q : Path c u x) → weight q ≡ 0 → delay q ≤ m + delay_of c u
-  top_most u v m dist table lens room b top x q f = go (get_or dist x None) refl (b.least x within)
+  top_most u v m found room b top x q f = go (known found x).distance refl (b.least x within)
     where
-      within : x < length dist
+      within : x < length found
       within = let i = (ends_inner q).there in omega arith
 
-      go : (o : Option (ℕ × ℕ)) → get_or dist x None ≡ o → Least delays at u x o → delay q ≤ m + delay_of c u
+      go : (o : Option (ℕ × ℕ)) → (known found x).distance ≡ o → Least delays at u x o → delay q ≤ m + delay_of c u
       go None e h = let r = to_walk ds ws q in absurd (h r.0 r.1)
       go (Some y) e h =
           let r = to_walk ds ws q in
@@ -86,43 +71,44 @@ module _ (ds : List ℕ) (ws : List (Option Wire)) where
           let k = top.most x y.1 within (e ∙ ap Some free) in
           omega (arith, r.3)
 
-  pub reached : (u v m : ℕ) (dist : List (Option (ℕ × ℕ))) (table lens : List ℕ) → gates c ≤ 128 → length dist ≡ 128 → Nearest ds ws u dist table lens → Top dist v m
-      → Reached ds ws u table lens v (m + delay_of c u)
-  reached u v m dist table lens few size b top =
+  pub reached : (u v m : ℕ) (found : List (Way (ℕ × ℕ))) → gates c ≤ 128 → length found ≡ 128 → Nearest ds ws u found → Top found v m
+      → Reached ds ws u found v (m + delay_of c u)
+  reached u v m found few size b top =
       let w = b.ways v (0, m) top.there top.is in
       let n = b.few v (0, m) top.there top.is in
       let below = top.there in
       record {
-        there = omega arith;
+        there = (omega arith, top.there);
         few = omega arith;
         way = w.leads;
         free = ap (λ (t : ℕ × ℕ). t.0) w.sums;
         slow = ap (λ (t : ℕ × ℕ). t.1 + delay_of c u) w.sums;
-        most = top_most u v m dist table lens (omega arith) b top;
+        most = top_most u v m found (omega arith) b top;
       }
 
   -- one gate more to begin at
-  most_more : (u v d best t : ℕ) (table lens : List ℕ) → best ≤ t → d ≤ t → Reached ds ws u table lens v d → ((a b : ℕ) (q : Path c a b) → a < u → weight q ≡ 0 → delay q ≤ best)
+  most_more : (u v d best t : ℕ) (found : List (Way (ℕ × ℕ))) → best ≤ t → d ≤ t → Reached ds ws u found v d → ((a b : ℕ) (q : Path c a b) → a < u → weight q ≡ 0 → delay q ≤ best)
       → (a b : ℕ) (q : Path c a b) → a < u + 1 → weight q ≡ 0 → delay q ≤ t
-  most_more u v d best t table lens lb ld r h a b q lt f = ⊎_elim
+  most_more u v d best t found lb ld r h a b q lt f = ⊎_elim
       (λ e. let k = subst (λ g. (p : Path c g b) → weight p ≡ 0 → delay p ≤ d) (sym e) (r.most b) q f in omega arith)
       (λ ne. let k = h a b q (omega arith) f in omega arith)
       (cases_eq a u)
 
-  -- the path from u is as slow as any before
-  pub so_far_new : (u v d best : ℕ) (table lens gs new : List ℕ) → Inner c u → best ≤ d → Reached ds ws u table lens v d → new ≡ stations ws u (row table lens v)
+  -- the path from u is as slow as any before: `arcs` is what was read as its way
+  pub so_far_new : (u v d best : ℕ) (found : List (Way (ℕ × ℕ))) (gs new arcs : List ℕ) (w : Way (ℕ × ℕ)) → Inner c u → best ≤ d → Reached ds ws u found v d → arcs ≡ (get_or found v w).arcs.items → new ≡ stations ws u (reverse arcs)
       → SoFar c u best gs → SoFar c (u + 1) d new
-  so_far_new u v d best table lens gs new i le r is s =
-      let p = to_path ds ws u i (row table lens v) v r.way in
+  so_far_new u v d best found gs new arcs w i le r read is s =
+      let p = to_path ds ws u i (row found v) v r.way in
+      let same : arcs ≡ (known found v).arcs.items = read ∙ ap (λ (x : Way (ℕ × ℕ)). x.arcs.items) (get_or_default found v w _ r.there.1) in
       record {
-        most = most_more u v d best d table lens le (omega arith) r s.most;
-        met = inr (u, v, p.0, p.1 ∙ r.free, p.3 ∙ sym is, p.2 ∙ r.slow);
+        most = most_more u v d best d found le (omega arith) r s.most;
+        met = inr (u, v, p.0, p.1 ∙ r.free, p.3 ∙ sym (is ∙ ap (λ ps. stations ws u (reverse ps)) same), p.2 ∙ r.slow);
       }
 
   -- the path from u is not as slow
-  pub so_far_same : (u v d best : ℕ) (table lens gs : List ℕ) → d < best → Reached ds ws u table lens v d → SoFar c u best gs → SoFar c (u + 1) best gs
-  so_far_same u v d best table lens gs lt r s = record {
-    most = most_more u v d best best table lens (omega arith) (omega arith) r s.most;
+  pub so_far_same : (u v d best : ℕ) (found : List (Way (ℕ × ℕ))) (gs : List ℕ) → d < best → Reached ds ws u found v d → SoFar c u best gs → SoFar c (u + 1) best gs
+  so_far_same u v d best found gs lt r s = record {
+    most = most_more u v d best best found (omega arith) (omega arith) r s.most;
     met = ⊎_elim (λ none. absurd (let z : ⊥ = omega arith in z)) (λ some. inr some) s.met;
   }
 

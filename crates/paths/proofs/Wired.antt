@@ -84,9 +84,9 @@ module _ (ds : List ℕ) (ws : List (Option Wire)) where
   enters a x e = enters_of (get_or ws a None) x e
 
   -- the net of a circuit whose numbers are small
-  pub net_sound : (n : ℕ) → n ≡ 128 → gates c ≤ 128 → length ws ≤ 512 → ((g : ℕ) → get_or ds g 0 ≤ 65535) → ((i : ℕ) → registers_of (get_or ws i None) ≤ 255) → Sound delays at (length ws) n
-  net_sound n e g m slow deep = record {
-    few = omega arith;
+  pub net_sound : (n : ℕ) → gates c ≤ n → n ≤ 128 → length ws ≤ 512 → ((g : ℕ) → get_or ds g 0 ≤ 65535) → ((i : ℕ) → registers_of (get_or ws i None) ≤ 255) → Sound delays at (length ws) n
+  net_sound n room few m slow deep = record {
+    few = few;
     short = omega arith;
     place = wire_places ds ws;
     tail = λ a x h. let k = (wired a x h).first.there in omega arith;

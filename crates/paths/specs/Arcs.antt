@@ -7,6 +7,7 @@ use Rattle.ways.specs.Kinds.{delays}
 use Rattle.ways.specs.Places.{none_some}
 use Rattle.ways.specs.Walks.{Best}
 use Rattle.ways.specs.declared.net.Arc.{Arc}
+use Rattle.ways.specs.declared.walk.Way.{Way}
 
 abbrev pub circuit : List ℕ → List (Option Wire) → Circuit
 circuit ds ws = record { delays = ds; wires = ws }
@@ -41,5 +42,5 @@ registers_of None = 0
 registers_of (Some w) = w.registers
 
 -- the least distances (registers, delay) from u, and their ways
-abbrev pub Nearest : List ℕ → List (Option Wire) → ℕ → List (Option (ℕ × ℕ)) → List ℕ → List ℕ → Type 0
-Nearest ds ws u dist table lens = Best delays (wire_arcs ds ws) u dist table lens
+abbrev pub Nearest : List ℕ → List (Option Wire) → ℕ → List (Way (ℕ × ℕ)) → Type 0
+Nearest ds ws u found = Best delays (wire_arcs ds ws) u found

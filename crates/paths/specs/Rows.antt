@@ -1,6 +1,8 @@
 -- How the tables of W and D fill, row by row.
-use Rattle.std.specs.Prelude.{◌≡◌, ℕ, ◌+◌, ◌*◌, ◌<◌, ◌≤◌, ◌⊎◌, List, length, Some, None, Option, slice_index, slice_index_or}
+use Rattle.std.specs.Prelude.{◌≡◌, ℕ, ◌+◌, ◌*◌, ◌<◌, ◌≤◌, ◌⊎◌, List, length, Some, None, Option, slice_index}
 use Rattle.model.specs.Circuit.{Circuit, Path, IsWD, gates}
+use Rattle.ways.specs.Walks.{known}
+use Rattle.ways.specs.declared.walk.Way.{Way}
 
 -- what the cell of u and v holds: W and D, or 4,294,967,295 and 0 without a path
 abbrev pub Cell : Circuit → ℕ → ℕ → ℕ → ℕ → Type 0
@@ -16,8 +18,8 @@ Stands own None w d = (w ≡ 4294967295) × (d ≡ 0)
 Stands own (Some x) w d = (w ≡ x.0) × (d ≡ x.1 + own)
 
 -- the cells from `base` on stand for the first m distances
-abbrev pub Told : ℕ → ℕ → List (Option (ℕ × ℕ)) → ℕ → List ℕ → List ℕ → Type 0
-Told base own dist m W D = (v : ℕ) → v < m → Stands own (slice_index_or dist v None) (slice_index W (base + v)) (slice_index D (base + v))
+abbrev pub Told : ℕ → ℕ → List (Way (ℕ × ℕ)) → ℕ → List ℕ → List ℕ → Type 0
+Told base own found m W D = (v : ℕ) → v < m → Stands own (known found v).distance (slice_index W (base + v)) (slice_index D (base + v))
 
 -- the cells but n from `base` on are as they were
 abbrev pub Outside : ℕ → ℕ → List ℕ → List ℕ → Type 0

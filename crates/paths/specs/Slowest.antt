@@ -1,9 +1,10 @@
 -- The slowest register-free path.
-use Rattle.std.specs.Prelude.{◌≡◌, ℕ, ◌+◌, ◌<◌, ◌≤◌, ◌⊎◌, List, [], ◌∷◌, ◌++◌, length, Some, None, Option, slice_index, slice_index_or}
+use Rattle.std.specs.Prelude.{◌≡◌, ℕ, ◌+◌, ◌<◌, ◌≤◌, ◌⊎◌, List, [], ◌∷◌, ◌++◌, length, Some, None, Option, slice_index_or}
 use Rattle.model.specs.declared.Wire.{Wire}
 use Rattle.model.specs.Circuit.{Circuit, Path, gate, step, weight, delay, delay_of, gates}
 use Rattle.ways.specs.Kinds.{delays}
-use Rattle.ways.specs.Walks.{Leads, total, row}
+use Rattle.ways.specs.Walks.{Leads, total, known, row}
+use Rattle.ways.specs.declared.walk.Way.{Way}
 use Rattle.paths.specs.Arcs.{circuit, wire_arcs}
 
 -- the gates of a path, in their order
@@ -31,16 +32,16 @@ abbrev pub Free : Option (ℕ × ℕ) → ℕ → Type 0
 Free found d = ((k : ℕ) → found ≡ Some (0, k) → d ≡ k) × (0 < d → found ≡ Some (0, d))
 
 -- v has a distance without registers, of the greatest delay m
-pub record Top (dist : List (Option (ℕ × ℕ))) (v m : ℕ) : Type 0 where
-  pub there : v < length dist
-  pub is : slice_index_or dist v None ≡ Some (0, m)
-  pub most : (x k : ℕ) → x < length dist → slice_index_or dist x None ≡ Some (0, k) → k ≤ m
+pub record Top (found : List (Way (ℕ × ℕ))) (v m : ℕ) : Type 0 where
+  pub there : v < length found
+  pub is : (known found v).distance ≡ Some (0, m)
+  pub most : (x k : ℕ) → x < length found → (known found x).distance ≡ Some (0, k) → k ≤ m
 
--- the table keeps a way without registers from u to v, whose gates have the delay d together, and no path from u without registers is slower
-pub record Reached (ds : List ℕ) (ws : List (Option Wire)) (u : ℕ) (table lens : List ℕ) (v d : ℕ) : Type 0 where
-  pub there : v < 128
-  pub few : slice_index lens v < 128
-  pub way : Leads (wire_arcs ds ws) u (row table lens v) v
-  pub free : (total delays (wire_arcs ds ws) (row table lens v)).0 ≡ 0
-  pub slow : (total delays (wire_arcs ds ws) (row table lens v)).1 + delay_of (circuit ds ws) u ≡ d
+-- the way found to v comes from u without registers, its gates have the delay d together, and no path from u without registers is slower
+pub record Reached (ds : List ℕ) (ws : List (Option Wire)) (u : ℕ) (found : List (Way (ℕ × ℕ))) (v d : ℕ) : Type 0 where
+  pub there : (v < 128) × (v < length found)
+  pub few : length (known found v).arcs.items < 128
+  pub way : Leads (wire_arcs ds ws) u (row found v) v
+  pub free : (total delays (wire_arcs ds ws) (row found v)).0 ≡ 0
+  pub slow : (total delays (wire_arcs ds ws) (row found v)).1 + delay_of (circuit ds ws) u ≡ d
   pub most : (x : ℕ) (q : Path (circuit ds ws) u x) → weight q ≡ 0 → delay q ≤ d

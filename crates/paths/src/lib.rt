@@ -7,5 +7,4 @@ mod nearest;
 mod net;
 mod tables;
 
-pub use critical::slowest;
-pub use tables::fill_tables;
+pub use net::Paths;

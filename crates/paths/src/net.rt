@@ -1,18 +1,23 @@
 // The wires between gates as a net, whose ways are the circuit's paths.
-ghost use Rattle.std.specs.Prelude.{◌≡◌, length};
-ghost use Rattle.paths.specs.Arcs.{wire_arc, wire_arcs, wire_places};
+ghost use Rattle.std.specs.Prelude.{◌≡◌, ℕ, ◌<◌, ◌≤◌, length, None, slice_index_or};
+ghost use Rattle.model.specs.Circuit.{NoFreeLoop};
+ghost use Rattle.paths.specs.Arcs.{circuit, registers_of, wire_arc, wire_arcs, wire_places};
 
 use model::Wire;
 use ways::{Arc, Net};
 
-// An arc's length is the registers of its wire and the delay of the gate that it comes to.
+// The delay of each gate, the host's first, and the wires by number. A path whose wires have no registers never comes back to its gate.
 #[derive(Clone, Copy)]
 pub struct Paths<'a, 'b> {
     pub delays: &'a [u16],
     pub wires: &'b [Option<Wire>],
+    pub ghost gates: { (0 < length delays.now) × (length delays.now ≤ 128) },
+    pub ghost few: { length wires.now ≤ 512 },
+    pub ghost deep: { (i : ℕ) → registers_of (slice_index_or wires.now i None) ≤ 255 },
+    pub ghost free: { NoFreeLoop (circuit delays.now wires.now) },
 }
 
-// The arc of a wire, unless an end is the host or a gate that is not there.
+// The arc of a wire, unless an end is the host or a gate that is not there. Its length is the registers of the wire and the delay of the gate that it comes to.
 fn link(w: Wire, delays: &[u16]) -> Option<Arc<(u32, u32)>>
     ensures { result ≡ wire_arc delays.now w }
 {
@@ -43,14 +48,10 @@ impl<'a, 'b> Net for Paths<'a, 'b> {
     }
 
     fn arc(&self, i: usize) -> Option<Arc<(u32, u32)>> {
-        if i < self.wires.len() {
-            let there = self.wires[i];
-            match there {
-                Some(w) => link(w, self.delays),
-                None => None,
-            }
-        } else {
-            None
-        }
+        self.wires
+            .get(i)
+            .copied()
+            .flatten()
+            .and_then(|w| link(w, self.delays))
     }
 }

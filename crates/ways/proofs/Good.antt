@@ -1,10 +1,11 @@
 -- Walks that come to no vertex twice.
-use Rattle.std.proofs.Common.{◌≡◌, ℕ, suc, ◌+◌, ◌<◌, true, false, List, [], ◌∷◌, ◌++◌, length, get_or, Some, None, Option, sym, refl, ap, ◌∙◌, subst, ⊎_elim, add-one, arith}
+use Rattle.std.proofs.Common.{◌≡◌, ℕ, suc, ◌+◌, ◌<◌, true, false, List, [], ◌∷◌, ◌++◌, length, Some, None, Option, sym, refl, ap, ◌∙◌, subst, ⊎_elim, add-one, arith}
 use Rattle.std.proofs.lemmas.Bool.{both_ways, cases_Bool}
 use Rattle.ways.specs.Laws.{Kind, Laws}
-use Rattle.ways.specs.Walks.{Leads, Clear, Once, long, total, near, Sound, Way, LoopBelow}
+use Rattle.ways.specs.Walks.{Leads, Clear, Once, long, total, known, near, Sound, IsWay, LoopBelow}
 use Rattle.ways.specs.Keeps.{Good}
 use Rattle.ways.specs.declared.net.Arc.{Arc}
+use Rattle.ways.specs.declared.walk.Way.{Way}
 use Rattle.ways.proofs.Near.{some_same, near_trans}
 use Rattle.ways.proofs.Few.{NotIn, Apart, Under, few}
 
@@ -31,7 +32,7 @@ tails-length : {L : Type 0} (at : ℕ → Option (Arc L)) (ps : List ℕ) → le
 tails-length at [] = refl
 tails-length at (a ∷ ps) = ap suc (tails-length at ps)
 
-module _ {L : Type 0} {K : Kind L} (laws : Laws K) (at : ℕ → Option (Arc L)) (s : ℕ) (d : List (Option L)) where
+module _ {L : Type 0} {K : Kind L} (laws : Laws K) (at : ℕ → Option (Arc L)) (s : ℕ) (d : List (Way L)) where
   pub good_leads : (ps : List ℕ) (v : ℕ) → Good K at s d ps v → Leads at s ps v
   good_leads [] v h = h.0
   good_leads (a ∷ ps) v h = (h.0, h.1, h.2, good_leads ps h.0.tail h.5)
@@ -47,22 +48,22 @@ module _ {L : Type 0} {K : Kind L} (laws : Laws K) (at : ℕ → Option (Arc L))
     good_once ps h.0.tail h.5,
   )
 
-  pub good_near : (ps : List ℕ) (v : ℕ) → Good K at s d ps v → near K (get_or d v None) (Some (total K at ps)) ≡ true
+  pub good_near : (ps : List ℕ) (v : ℕ) → Good K at s d ps v → near K (known d v).distance (Some (total K at ps)) ≡ true
   good_near [] v h = h.1
   good_near (a ∷ ps) v h = h.4
 
-  pub good_way : (ps : List ℕ) (v : ℕ) (x : L) → Good K at s d ps v → total K at ps ≡ x → Way K at s v ps x
+  pub good_way : (ps : List ℕ) (v : ℕ) (x : L) → Good K at s d ps v → total K at ps ≡ x → IsWay K at s v ps x
   good_way ps v x h e = record { leads = good_leads ps v h; sums = e; once = good_once ps v h; ends = good_clear ps v h }
 
   -- distances fell
-  pub good_lower : (d' : List (Option L)) → ((v : ℕ) → near K (get_or d' v None) (get_or d v None) ≡ true) → (ps : List ℕ) (v : ℕ) → Good K at s d ps v → Good K at s d' ps v
-  good_lower d' low [] v h = (h.0, near_trans laws (get_or d' v None) (get_or d v None) (Some K.zero) (low v) h.1)
+  pub good_lower : (d' : List (Way L)) → ((v : ℕ) → near K (known d' v).distance (known d v).distance ≡ true) → (ps : List ℕ) (v : ℕ) → Good K at s d ps v → Good K at s d' ps v
+  good_lower d' low [] v h = (h.0, near_trans laws (known d' v).distance (known d v).distance (Some K.zero) (low v) h.1)
   good_lower d' low (a ∷ ps) v h = (
     h.0,
     h.1,
     h.2,
     h.3,
-    near_trans laws (get_or d' v None) (get_or d v None) (Some (total K at (a ∷ ps))) (low v) h.4,
+    near_trans laws (known d' v).distance (known d v).distance (Some (total K at (a ∷ ps))) (low v) h.4,
     good_lower d' low ps h.0.tail h.5,
   )
 
@@ -109,7 +110,7 @@ module _ {L : Type 0} {K : Kind L} (laws : Laws K) (at : ℕ → Option (Arc L))
 
   -- an arc that leads on from a walk's end to where its part `seg` begins, and to less than the distance there, closes a loop
   pub loop_of : (seg qs : List ℕ) (i : ℕ) (x : Arc L) (far sum : L) → at i ≡ Some x → Good K at s d (seg ++ qs) x.tail → total K at (seg ++ qs) ≡ far → sum ≡ K.sum far x.length
-      → near K (get_or d x.head None) (Some sum) ≡ false → ((w : ℕ) → Leads at w seg x.tail → w ≡ x.head) → LoopBelow K at s (i ∷ seg)
+      → near K (known d x.head).distance (Some sum) ≡ false → ((w : ℕ) → Leads at w seg x.tail → w ≡ x.head) → LoopBelow K at s (i ∷ seg)
   loop_of seg qs i x far sum e h t m less begins =
       let r = split seg qs x.tail h in
       let w = begins r.0 r.1 in
@@ -122,8 +123,8 @@ module _ {L : Type 0} {K : Kind L} (laws : Laws K) (at : ℕ → Option (Arc L))
         reached = good_leads qs x.head good;
         closed = (x, e, refl, subst (λ u. Leads at u seg x.tail) w r.1);
         below = ⊎_elim
-            (λ y. absurd (both_ways (near K (get_or d x.head None) (Some sum)) less
-            (near_trans laws (get_or d x.head None) (Some (total K at qs)) (Some sum) (good_near qs x.head good)
+            (λ y. absurd (both_ways (near K (known d x.head).distance (Some sum)) less
+            (near_trans laws (known d x.head).distance (Some (total K at qs)) (Some sum) (good_near qs x.head good)
             (subst (λ l. K.upto l sum ≡ true) (laws.zero_right (total K at qs))
             (subst (λ l. K.upto (K.sum (total K at qs) K.zero) l ≡ true) sum_is (laws.on_left (total K at qs) K.zero (total K at (i ∷ seg)) y))))))
             (λ f. f)

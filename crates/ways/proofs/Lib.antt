@@ -1,9 +1,7 @@
 pub mod Near
-pub mod Cells
+pub mod Walks
 pub mod Few
 pub mod Good
-pub mod Uses
-pub mod Fairs
+pub mod Below
 pub mod Steps
-pub mod Emptied
 pub mod Turns

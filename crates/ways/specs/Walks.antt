@@ -1,9 +1,9 @@
 -- Walks over a net's arcs, the least sum of the walks to a vertex, and what an answer says.
-use Rattle.std.specs.Prelude.{◌≡◌, ℕ, zero, suc, ◌+◌, ◌*◌, ◌<◌, ◌≤◌, Bool, true, false, List, [], ◌∷◌, length, Some, None, Option, ◌≢◌, slice_index, slice_index_or}
+use Rattle.std.specs.Prelude.{◌≡◌, ℕ, ◌<◌, ◌≤◌, Bool, true, false, List, [], ◌∷◌, length, reverse, Some, None, Option, Ok, Err, Result, ◌≢◌, slice_index_or}
 use Rattle.ways.specs.Laws.{Kind}
 use Rattle.ways.specs.declared.net.Arc.{Arc}
-use Rattle.ways.specs.declared.shortest.Outcome.{Outcome}
-use Rattle.ways.specs.declared.shortest.Outcome.TheVariants.{Settled, Loop}
+use Rattle.ways.specs.declared.walk.Way.{Way}
+use Rattle.ways.specs.declared.walk.Loop.{Loop}
 
 -- The arcs `ps` make a walk from one vertex to another. They are listed from its end: the last arc first.
 abbrev pub Leads : {L : Type 0} → (ℕ → Option (Arc L)) → ℕ → List ℕ → ℕ → Type 0
@@ -29,14 +29,13 @@ abbrev pub Once : {L : Type 0} → (ℕ → Option (Arc L)) → List ℕ → Typ
 Once at [] = Unit {0}
 Once {L} at (a ∷ ps) = ((x : Arc L) → at a ≡ Some x → Clear at x.tail ps) × Once at ps
 
--- n cells of a table from the cell b on, the last first: a walk whose arcs stand there in their order
-abbrev pub cells : List ℕ → ℕ → ℕ → List ℕ
-cells t b zero = []
-cells t b (suc n) = slice_index t (b + n) ∷ cells t b n
+-- what a search knows of the vertex v: nothing past the end
+abbrev pub known : {L : Type 0} → List (Way L) → ℕ → Way L
+known found v = slice_index_or found v (record { distance = None; arcs = record { items = [] } })
 
--- the way that the table keeps for the vertex v
-abbrev pub row : List ℕ → List ℕ → ℕ → List ℕ
-row table lens v = cells table (v * 128) (slice_index lens v)
+-- the way of the vertex v, listed from its end
+abbrev pub row : {L : Type 0} → List (Way L) → ℕ → List ℕ
+row found v = reverse (known found v).arcs.items
 
 -- `None` is farther than any distance
 abbrev pub near : {L : Type 0} → Kind L → Option L → Option L → Bool
@@ -68,7 +67,7 @@ Fair K n None = Unit {0}
 Fair K n (Some x) = (x.tail < n) × (x.head < n) × K.fits 1 x.length
 
 -- ps is a walk from s to v of the sum d that comes to no vertex twice
-pub record Way {L : Type 0} (K : Kind L) (at : ℕ → Option (Arc L)) (s v : ℕ) (ps : List ℕ) (d : L) : Type 0 where
+pub record IsWay {L : Type 0} (K : Kind L) (at : ℕ → Option (Arc L)) (s v : ℕ) (ps : List ℕ) (d : L) : Type 0 where
   pub leads : Leads at s ps v
   pub sums : total K at ps ≡ d
   pub once : Once at ps
@@ -83,20 +82,19 @@ pub record LoopBelow {L : Type 0} (K : Kind L) (at : ℕ → Option (Arc L)) (s 
   pub below : K.upto K.zero (total K at ps) ≡ false
   pub once : Once at ps
 
--- Every distance is least, the table keeps a walk of it with fewer arcs than there are vertices, and no closed walk that can be come to is below zero.
-pub record Best {L : Type 0} (K : Kind L) (at : ℕ → Option (Arc L)) (s : ℕ) (dist : List (Option L)) (table lens : List ℕ) : Type 0 where
-  pub least : (v : ℕ) → v < length dist → Least K at s v (slice_index_or dist v None)
-  pub ways : (v : ℕ) (d : L) → v < length dist → slice_index_or dist v None ≡ Some d → Way K at s v (row table lens v) d
-  pub few : (v : ℕ) (d : L) → v < length dist → slice_index_or dist v None ≡ Some d → slice_index lens v < length dist
-  pub fits : (v : ℕ) (d : L) → v < length dist → slice_index_or dist v None ≡ Some d → K.fits (slice_index lens v) d
+-- Every distance is least, the way of its vertex is a walk of it with fewer arcs than there are vertices, and no closed walk that can be come to is below zero.
+pub record Best {L : Type 0} (K : Kind L) (at : ℕ → Option (Arc L)) (s : ℕ) (found : List (Way L)) : Type 0 where
+  pub least : (v : ℕ) → v < length found → Least K at s v (known found v).distance
+  pub ways : (v : ℕ) (d : L) → v < length found → (known found v).distance ≡ Some d → IsWay K at s v (row found v) d
+  pub few : (v : ℕ) (d : L) → v < length found → (known found v).distance ≡ Some d → length (known found v).arcs.items < length found
+  pub fits : (v : ℕ) (d : L) → v < length found → (known found v).distance ≡ Some d → K.fits (length (known found v).arcs.items) d
   pub none_below : (v : ℕ) (qs ps : List ℕ) → Leads at s qs v → Leads at v ps v → K.upto K.zero (total K at ps) ≡ true
 
--- the first m cells of `out` are a loop below zero
-pub record Closes {L : Type 0} (K : Kind L) (at : ℕ → Option (Arc L)) (s : ℕ) (out : List ℕ) (m : ℕ) : Type 0 where
-  pub within : m ≤ length out
-  pub loop : LoopBelow K at s (cells out 0 m)
+-- the arcs are a loop below zero
+abbrev pub Closes : {L : Type 0} → Kind L → (ℕ → Option (Arc L)) → ℕ → Loop → Type 0
+Closes K at s l = LoopBelow K at s (reverse l.arcs.items)
 
 -- what an answer says
-abbrev pub Answered : {L : Type 0} → Kind L → (ℕ → Option (Arc L)) → ℕ → List (Option L) → List ℕ → List ℕ → List ℕ → Outcome → Type 0
-Answered K at s dist table lens out Settled = Best K at s dist table lens
-Answered K at s dist table lens out (Loop m) = Closes K at s out m
+abbrev pub Answered : {L : Type 0} → Kind L → (ℕ → Option (Arc L)) → ℕ → List (Way L) → Result Unit Loop → Type 0
+Answered K at s found (Ok _) = Best K at s found
+Answered K at s found (Err l) = Closes K at s l

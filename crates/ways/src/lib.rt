@@ -4,8 +4,9 @@
 mod distance;
 mod net;
 mod shortest;
-mod way;
+mod walk;
 
 pub use distance::Distance;
 pub use net::{Arc, Listed, Net, sound};
-pub use shortest::{Outcome, ways};
+pub use shortest::ways;
+pub use walk::{Loop, Way};

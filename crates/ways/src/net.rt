@@ -7,7 +7,7 @@ ghost use Rattle.ways.specs.declared.net.Arc.{Arc};
 use crate::distance::Distance;
 
 // An arc from the vertex `tail` to the vertex `head`.
-#[derive(Clone, Copy)]
+#[derive(Clone, Copy, PartialEq, Eq, Debug)]
 pub struct Arc<L> {
     pub tail: usize,
     pub head: usize,
@@ -58,8 +58,7 @@ impl<'a, L: Distance> Net for Listed<'a, L> {
     }
 
     fn arc(&self, i: usize) -> Option<Arc<L>> {
-        let listed = self.arcs;
-        if i < listed.len() { listed[i] } else { None }
+        self.arcs.get(i).copied().flatten()
     }
 }
 
@@ -67,23 +66,19 @@ impl<'a, L: Distance> Net for Listed<'a, L> {
 fn fair<N: Net>(net: &N, n: usize, i: usize) -> bool
     ensures { Decides result (Fair N.Length.Distance.kind n (N.arcs net.now i)) }
 {
-    match net.arc(i) {
-        Some(arc) => arc.tail < n && arc.head < n && arc.length.one_step(),
-        None => true,
-    }
+    net.arc(i).is_none_or(|arc| arc.tail < n && arc.head < n && arc.length.one_step())
+}
+
+// Whether each place is fair.
+fn all_fair<N: Net>(net: &N, n: usize) -> bool
+    ensures { Decides result ((a : ℕ) → a < N.many net.now → Fair N.Length.Distance.kind n (N.arcs net.now a)) }
+{
+    (0..net.count()).all(|i| fair(net, n, i))
 }
 
 // Whether `ways` can go over the net with n vertices: n is at most 128, there are at most 65536 places, and each is fair.
 pub fn sound<N: Net>(net: &N, n: usize) -> bool
     ensures { Decides result (Sound N.Length.Distance.kind (N.arcs net.now) (N.many net.now) n) }
 {
-    if n > 128 || net.count() > 65536 {
-        return false;
-    }
-    for i in 0..net.count() {
-        if !fair(net, n, i) {
-            return false;
-        }
-    }
-    true
+    n <= 128 && net.count() <= 65536 && all_fair(net, n)
 }

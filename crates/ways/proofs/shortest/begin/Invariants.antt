@@ -1,5 +1,6 @@
-use Rattle.std.proofs.Common.{◌≡◌, ℕ, ◌<◌, get_or, None}
+use Rattle.std.proofs.Common.{◌≡◌, ℕ, ◌<◌, None}
+use Rattle.ways.specs.Walks.{known}
 use Rattle.ways.proofs.shortest.begin.Given as goal
 
-abbrev pub invariant-loop-v : goal.invariant-loop-v
-invariant-loop-v g l = (u : ℕ) → u < l.v → get_or l.dist u None ≡ None
+abbrev pub invariant-loop-way : goal.invariant-loop-way
+invariant-loop-way g l = (u : ℕ) → u < l.way-index → (known l.found u).distance ≡ None
