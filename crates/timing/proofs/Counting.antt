@@ -4,7 +4,7 @@ use Rattle.timing.specs.Marks.{gap, undone}
 use Rattle.std.proofs.lemmas.List.Sums.{sum_by-cons, sum_by-drop_more, get_or-le-sum_by}
 use Rattle.std.proofs.lemmas.Bool.{cases_eq, cases_Bool, eq-eqb, ne_eqb}
 
-abbrev bit : Bool → ℕ
+abbrev pub bit : Bool → ℕ
 bit b = cond b 1 0
 
 bit_zero : (b : Bool) → bit b ≤ 0 → b ≡ false
