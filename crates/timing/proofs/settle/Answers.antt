@@ -78,7 +78,7 @@ loop-gate-preserved c =
     let low : Lowered arcs 128 u counts lowered rest ready = subst (λ (xs : List Arc). Lowered xs 128 u counts lowered rest ready) c.new-fanout.ensures c.lower.ensures.lowered in
     record {
       room = (let a = c.lower.ensures.room in let b = c.in-Some.ensures.1 in let e = c.loop-gate.invariant.room in omega arith);
-      stage = (also u c.loop-gate.invariant.stage.0, lemma.advanced ds arcs c.requires.within counts times rest c.loop-gate.period c.loop-gate.left u c.loop-gate.invariant.stage.0 s (omega arith) c.max-period.result (omega arith) later (rw e at rise) 128 c.requires.sizes.1 lowered ready low);
+      stage = (also u c.loop-gate.invariant.stage.0, lemma.advanced ds arcs c.requires.within counts times rest c.loop-gate.period c.loop-gate.left u c.loop-gate.invariant.stage.0 s (omega arith) _ (omega arith) later (rw e at rise) 128 c.requires.sizes.1 lowered ready low);
     }
 
 pub returns : goal.returns
