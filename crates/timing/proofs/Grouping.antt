@@ -101,10 +101,6 @@ skipped : (arcs : List Arc) (u m : ℕ) (o : Option ℕ) → m ≤ length arcs �
 skipped arcs u m None h l = heads_gap arcs u 0 m (omega arith) h (λ k a b. l k b)
 skipped arcs u m (Some i) h l = heads_gap arcs u (suc i) m (let a = l.0 in omega arith) h (λ k a b. l.2 k (omega arith) b)
 
-leaves : (arcs : List Arc) (u m : ℕ) (o : Option ℕ) → m ≤ length arcs → Last arcs u m o → Leaves arcs u o
-leaves arcs u m None h l = tt
-leaves arcs u m (Some i) h l = ((let a = l.0 in omega arith), l.1)
-
 -- each gate is entered by as many arcs from u as it stands among the heads
 entered_front : (arcs : List Arc) (u v m : ℕ) → m ≤ length arcs → entered (heads (take m arcs) u) v ≡ count_by (between u v) (take m arcs)
 entered_front arcs u v zero h = refl
@@ -160,9 +156,6 @@ module _ (arcs : List Arc) (last earlier : List (Option ℕ)) (groups : Grouped 
   pub heads_first : u < 128 → heads (take (past (get_or last u None)) arcs) u ≡ heads arcs u
   heads_first h = sym (skipped arcs u (length arcs) _ (omega arith) (groups.ends u h)) ∙ ap (λ (xs : List Arc). heads xs u) (take_all (length arcs) arcs (omega arith))
 
-  pub leaves_first : u < 128 → Leaves arcs u (get_or last u None)
-  leaves_first h = leaves arcs u (length arcs) _ (omega arith) (groups.ends u h)
-
   module _ (i : ℕ) (at : Option ℕ) (is : at ≡ Some i) (here : Leaves arcs u at) where
     at_hand : (i < length arcs) × ((get_or arcs i nowhere).from ≡ u)
     at_hand = subst (Leaves arcs u) is here
@@ -176,6 +169,3 @@ module _ (arcs : List Arc) (last earlier : List (Option ℕ)) (groups : Grouped 
         ap (λ o. heads (take (past o) arcs) u) is ∙ ap (λ (k : ℕ). heads (take k arcs) u) s
         ∙ heads_yes arcs u i at_hand.0 at_hand.1
         ∙ ap (λ hs. (get_or arcs i nowhere).to ∷ hs) (skipped arcs u i _ (let a = at_hand.0 in omega arith) before_it)
-
-    pub leaves_next : Leaves arcs u (get_or earlier i None)
-    leaves_next = leaves arcs u i _ (let a = at_hand.0 in omega arith) before_it

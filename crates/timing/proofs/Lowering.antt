@@ -1,12 +1,12 @@
 -- One head more off the counts.
-use Rattle.std.proofs.Common.{◌≡◌, ℕ, ◌+◌, ◌-◌, ◌<◌, ◌≤◌, ◌⊎◌, List, [], ◌∷◌, ◌++◌, length, get_or, set, count_by, sym, ◌∙◌, subst, inl, inr, arith}
+use Rattle.std.proofs.Common.{◌≡◌, ℕ, ◌+◌, ◌-◌, ◌<◌, ◌≤◌, ◌⊎◌, List, [], ◌∷◌, ◌++◌, length, get_or, set, sym, ◌∙◌, subst, inl, inr, arith}
 use Rattle.std.proofs.lemmas.List.{get_or-set_same, get_or-set_other}
 use Rattle.std.proofs.lemmas.Bool.{cases_eq}
 use Rattle.model.specs.Circuit.{◌∈◌}
 use Rattle.model.specs.Limits.{Different}
 use Rattle.model.proofs.Pigeons.{pigeons}
 use Rattle.timing.specs.declared.Arc.{Arc}
-use Rattle.timing.specs.Arcs.{Within, between}
+use Rattle.timing.specs.Arcs.{Within}
 use Rattle.timing.specs.Groups.{heads, entered}
 use Rattle.timing.specs.Lowered.{Lowerable, LoweredBy}
 use Rattle.timing.proofs.Grouping.{entered_same, entered_other, among, among_inner}

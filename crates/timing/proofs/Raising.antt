@@ -1,7 +1,7 @@
 -- One head more that waits for the time.
-use Rattle.std.proofs.Common.{◌≡◌, ℕ, ◌<◌, max, cond, eqb, List, [], ◌∷◌, ◌++◌, length, get_or, set, sym, refl, ap, ◌∙◌, subst, inl, inr, arith}
+use Rattle.std.proofs.Common.{◌≡◌, ℕ, ◌<◌, max, List, [], ◌∷◌, ◌++◌, length, get_or, set, sym, refl, ◌∙◌, subst, inl, inr, arith}
 use Rattle.std.proofs.lemmas.List.{get_or-set_same, get_or-set_other}
-use Rattle.std.proofs.lemmas.Bool.{cases_eq, eq-eqb, ne_eqb}
+use Rattle.std.proofs.lemmas.Bool.{cases_eq}
 use Rattle.timing.specs.Groups.{entered}
 use Rattle.timing.specs.Lowered.{RaisedBy}
 use Rattle.timing.proofs.Grouping.{entered_same, entered_other}

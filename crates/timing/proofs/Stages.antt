@@ -1,6 +1,6 @@
 -- The gates that are taken in order, and what is known when some are.
-use Rattle.std.proofs.Common.{◌≡◌, ℕ, zero, suc, ◌+◌, ◌-◌, ◌*◌, ◌<◌, ◌≤◌, max, Bool, true, false, cond, not, ◌&&◌, eqb, ◌⊎◌, List, [], ◌∷◌, length, get_or, count_by, sym, refl, ap, ◌∙◌, subst, inl, inr, arith}
-use Rattle.std.proofs.lemmas.Bool.{cases_eq, cases_lt, cases_Bool, eq-eqb, ne_eqb, eqb-true, and_from, and_parts, and_cases, not-false, not-true, both_ways}
+use Rattle.std.proofs.Common.{◌≡◌, ℕ, zero, suc, ◌+◌, ◌-◌, ◌*◌, ◌<◌, ◌≤◌, max, Bool, true, false, not, ◌&&◌, eqb, ◌⊎◌, List, [], ◌∷◌, length, get_or, count_by, sym, refl, ap, ◌∙◌, subst, inl, inr, arith}
+use Rattle.std.proofs.lemmas.Bool.{cases_eq, cases_lt, cases_Bool, eq-eqb, ne_eqb, eqb-true, and_parts, and_cases, not-false, not-true, both_ways}
 use Rattle.std.specs.Bool.{then_some}
 use Rattle.model.specs.Circuit.{◌∈◌}
 use Rattle.model.specs.Limits.{Different}
@@ -35,11 +35,6 @@ pub record Stage (ds : List ℕ) (arcs : List Arc) (counts times ready : List �
   pub met : (period ≡ 0) ⊎ ((u : ℕ) × (v : ℕ) × (r : Run ds arcs u v) × (spent r ≡ period))
   pub small : period + 65535 * left ≤ 65535 * length ds
   pub lefts : left ≡ undone taken (length ds)
-
-pub within_more : (m n : ℕ) (arcs : List Arc) → m ≤ n → Within m arcs → Within n arcs
-within_more m n arcs l within k h =
-    let i = within k h in
-    record { leaves = i.leaves; left = (let a = i.left in omega arith); enters = i.enters; entered = (let a = i.entered in omega arith) }
 
 pub at_front : {ds : List ℕ} {arcs : List Arc} {counts times old : List ℕ} {period left : ℕ} {taken : ℕ → Bool} {u : ℕ} {rest : List ℕ}
     → old ≡ u ∷ rest → Stage ds arcs counts times old period left taken → Stage ds arcs counts times (u ∷ rest) period left taken

@@ -1,7 +1,7 @@
 use Rattle.std.proofs.Common.{◌≡◌, ℕ, ◌+◌, ◌*◌, ◌<◌, ◌≤◌, ◌∷◌, List, length, get_or, count_by, sym, refl, ap, ◌∙◌, subst, inl, arith}
 use Rattle.timing.specs.declared.Arc.{Arc}
 use Rattle.timing.specs.Arcs.{into}
-use Rattle.timing.specs.Lowered.{Lowerable, Lowered, Raised, Seeded}
+use Rattle.timing.specs.Lowered.{Lowerable, Lowered, Raised}
 use Rattle.timing.proofs.Blank.{blank_all}
 use Rattle.timing.proofs.Counting.{also, host}
 use Rattle.timing.proofs.Seeding.{seeded_front}

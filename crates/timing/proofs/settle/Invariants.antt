@@ -1,4 +1,4 @@
-use Rattle.std.proofs.Common.{◌≡◌, ◌≤◌, ℕ, Bool, length}
+use Rattle.std.proofs.Common.{◌≡◌, ℕ, Bool}
 use Rattle.timing.proofs.Stages.{Stage}
 use Rattle.timing.proofs.settle.Given as goal
 

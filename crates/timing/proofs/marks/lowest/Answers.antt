@@ -1,7 +1,6 @@
-use Rattle.std.proofs.Common.{ℕ, rules}
+use Rattle.std.proofs.Common.{rules}
 use Rattle.std.proofs.lemmas.Iterator.{first_from_Range}
 use Rattle.timing.specs.Arcs.{Walk}
-use Rattle.timing.specs.Marks.{Lowest}
 use Rattle.timing.proofs.Marking.{lowest_first}
 use Rattle.timing.proofs.marks.lowest.Goals as goal
 use borrow.Author.Tests.{tests}

@@ -1,7 +1,6 @@
-use Rattle.std.proofs.Common.{◌≡◌, ℕ, ◌++◌, ◌∷◌, [], ◌-◌, ◌<◌, List, length, get_or, length-set, sym, ap, ◌∙◌, append_assoc, arith}
+use Rattle.std.proofs.Common.{◌≡◌, ℕ, ◌++◌, ◌∷◌, [], ◌<◌, List, length, length-set, sym, ap, ◌∙◌, append_assoc, arith}
 use Rattle.std.proofs.lemmas.List.{append-nil}
 use Rattle.timing.specs.Groups.{heads, entered}
-use Rattle.timing.specs.Lowered.{LoweredBy}
 use Rattle.timing.proofs.Grouping as groups
 use Rattle.timing.proofs.Lowering as lemma
 use Rattle.timing.proofs.Members.{pushed}
