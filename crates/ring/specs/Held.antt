@@ -1,20 +1,21 @@
--- What a ring holds, oldest first, how many it has room for, and what the calls do to it.
-use Rattle.std.specs.Prelude.{◌≡◌, ℕ, ◌<◌, List, [], ◌∷◌, ◌++◌, length, Some, None, Ok, Err, Option, Result}
-use Rattle.ring.specs.declared.ring.Ring.{Ring}
-use Rattle.ring.specs.Turned.{ringed}
+-- What a ring holds, and what the calls do to it.
+use Rattle.std.specs.Prelude.{◌≡◌, ℕ, ◌<◌, List, [], ◌∷◌, ◌++◌, length, Some, None, Ok, Err, Option, Result, refl}
+use Rattle.std.specs.Coded.{Coded, code_by, coded×, coded_list, coded_ℕ}
 
-abbrev pub held : {X : Type 0} → Ring X → List X
-held r = ringed r.slots.now r.first r.count
+-- the elements, oldest first, and how many there is room for
+pub record Queue (X : Type 0) : Type 0 where
+  pub held : List X
+  pub room : ℕ
 
-abbrev pub room : {X : Type 0} → Ring X → ℕ
-room r = length r.slots.now
+abbrev pub queue_code : {X : Type 0} → Coded X → Coded (Queue X)
+queue_code {X} c = code_by (List X × ℕ) (coded× (coded_list c) coded_ℕ) (λ q. (q.held, q.room)) (λ p. record { held = p.0; room = p.1 }) (λ _. refl)
 
 -- `push` of `x` adds it at the end where there is room; a full ring is refused, and stays.
-abbrev pub Pushed : {X : Type 0} → Ring X → X → Ring X → Result Unit X → Type 0
-Pushed a x b (Ok _) = (length (held a) < room a) × (held b ≡ held a ++ x ∷ []) × (room b ≡ room a)
-Pushed a x b (Err y) = (length (held a) ≡ room a) × (y ≡ x) × (b ≡ a)
+abbrev pub Pushed : {X : Type 0} → Queue X → X → Queue X → Result Unit X → Type 0
+Pushed a x b (Ok _) = (length a.held < a.room) × (b.held ≡ a.held ++ x ∷ []) × (b.room ≡ a.room)
+Pushed a x b (Err y) = (length a.held ≡ a.room) × (y ≡ x) × (b ≡ a)
 
 -- `take` gives the oldest and leaves the others; an empty ring gives none, and stays.
-abbrev pub Taken : {X : Type 0} → Ring X → Ring X → Option X → Type 0
-Taken a b (Some x) = (held a ≡ x ∷ held b) × (room b ≡ room a)
-Taken a b None = (held a ≡ []) × (b ≡ a)
+abbrev pub Taken : {X : Type 0} → Queue X → Queue X → Option X → Type 0
+Taken a b (Some x) = (a.held ≡ x ∷ b.held) × (b.room ≡ a.room)
+Taken a b None = (a.held ≡ []) × (b ≡ a)

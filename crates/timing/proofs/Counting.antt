@@ -1,10 +1,10 @@
 -- Counts of the elements of a list that pass a test, and of the numbers below n that fail one.
-use Rattle.std.proofs.Common.{◌≡◌, ℕ, zero, suc, ◌+◌, ◌<◌, ◌≤◌, Bool, true, false, cond, ◌||◌, eqb, List, [], ◌∷◌, length, get_or, drop, count_by, sym, refl, ap, ◌∙◌, inl, inr, add-one, arith}
+use Rattle.std.proofs.Common.{◌≡◌, ℕ, zero, suc, ◌+◌, ◌<◌, ◌≤◌, Bool, true, false, cond, ◌||◌, eqb, List, [], ◌∷◌, length, get_or, count_by, sym, refl, ap, ◌∙◌, inl, inr, arith}
 use Rattle.timing.specs.Marks.{gap, undone}
-use Rattle.std.proofs.lemmas.List.Sums.{sum_by-cons, sum_by-drop_more, get_or-le-sum_by}
+use Rattle.std.proofs.lemmas.List.Sums.{sum_by-cons, get_or-le-sum_by}
 use Rattle.std.proofs.lemmas.Bool.{cases_eq, cases_Bool, eq-eqb, ne_eqb}
 
-abbrev bit : Bool → ℕ
+abbrev pub bit : Bool → ℕ
 bit b = cond b 1 0
 
 bit_zero : (b : Bool) → bit b ≤ 0 → b ≡ false
@@ -43,28 +43,6 @@ count_same p q (x ∷ xs) d h =
     let e = ap bit (h 0 (omega arith)) in
     let f = count_same p q xs d (λ k l. h (suc k) (omega arith)) in
     omega arith
-
-pub count_drop_yes : {X : Type 0} (p : X → Bool) (xs : List X) (d : X) (i : ℕ) → i < length xs → p (get_or xs i d) ≡ true → count_by p (drop i xs) ≡ count_by p (drop (suc i) xs) + 1
-count_drop_yes p xs d i h e =
-    let a = rw add-one at (sum_by-drop_more (λ x. cond (p x) 1 0) xs i d h) in
-    let b = ap bit e in
-    omega arith
-
-pub count_drop_no : {X : Type 0} (p : X → Bool) (xs : List X) (d : X) (i : ℕ) → i < length xs → p (get_or xs i d) ≡ false → count_by p (drop i xs) ≡ count_by p (drop (suc i) xs)
-count_drop_no p xs d i h e =
-    let a = rw add-one at (sum_by-drop_more (λ x. cond (p x) 1 0) xs i d h) in
-    let b = ap bit e in
-    omega arith
-
--- elements that fail the test are not counted
-pub count_gap : {X : Type 0} (p : X → Bool) (xs : List X) (d : X) (i j : ℕ) → i ≤ j → j ≤ length xs → ((k : ℕ) → i ≤ k → k < j → p (get_or xs k d) ≡ false) → count_by p (drop i xs) ≡ count_by p (drop j xs)
-count_gap p xs d i zero l h f = let z : i ≡ 0 = omega arith in ap (λ (k : ℕ). count_by p (drop k xs)) z
-count_gap p xs d i (suc j) l h f = elim (cases_eq i (suc j)) [
-  | inl q ↦ ap (λ (k : ℕ). count_by p (drop k xs)) q
-  | inr n ↦
-      let m : i ≤ j = omega arith in
-      count_gap p xs d i j m (omega arith) (λ k a b. f k a (omega arith)) ∙ count_drop_no p xs d j (omega arith) (f j m (omega arith))
-]
 
 -- ---- the numbers below n that fail the test
 abbrev pub also : ℕ → (ℕ → Bool) → ℕ → Bool

@@ -1,12 +1,14 @@
 -- Grouping the arcs by the gate that they leave, and going over one gate's arcs, last first.
-use Rattle.std.proofs.Common.{◌≡◌, ℕ, suc, ◌+◌, ◌<◌, ◌≤◌, cond, List, length, get_or, drop, set, replicate, Some, None, count_by, Option, sym, refl, ap, ◌∙◌, subst, inl, inr, arith}
-use Rattle.std.proofs.lemmas.List.{get_or-set_same, get_or-set_other, get_or-replicate, length-replicate, length-set, drop_all}
-use Rattle.std.proofs.lemmas.List.Sums.{sum_by-take-drop}
+use Rattle.std.proofs.Common.{◌≡◌, ℕ, zero, suc, ◌+◌, ◌<◌, ◌≤◌, cond, eqb, List, [], ◌∷◌, ◌++◌, length, get_or, take, set, map, filter, reverse, replicate, Some, None, count_by, Option, sym, refl, ap, ◌∙◌, subst, inl, inr, arith}
+use Rattle.std.proofs.lemmas.List.{get_or-set_same, get_or-set_other, get_or-replicate, length-replicate, length-set, take_all, append-nil, reverse-append}
+use Rattle.std.proofs.lemmas.List.Elements.{filter_more}
+use Rattle.std.proofs.lemmas.List.Sums.{sum_by-cons, sum_by-append, count_by_more_yes, count_by_more_no}
 use Rattle.std.proofs.lemmas.Bool.{cases_eq, eq-eqb, ne_eqb, and_from, and_left, and_right}
 use Rattle.timing.specs.declared.Arc.{Arc}
 use Rattle.timing.specs.Arcs.{nowhere, Within, between}
-use Rattle.timing.specs.Groups.{Last, Grouped}
-use Rattle.timing.proofs.Counting.{count_gap, count_drop_yes, count_drop_no}
+use Rattle.timing.specs.Groups.{Last, Grouped, Leaves, past, heads, entered}
+use Rattle.timing.proofs.Counting.{bit}
+use Rattle.timing.proofs.Hops.{head_inner}
 
 -- ---- one arc more
 -- an arc that leaves another gate
@@ -67,72 +69,103 @@ module _ (arcs : List Arc) (m : ℕ) (last earlier : List (Option ℕ)) (short :
     unused = λ i l h. get_or-set_other earlier m i before None (omega arith) ∙ old.unused i (omega arith) h;
   }
 
--- ---- going over the arcs of u
--- where the arcs begin that have been gone over
-abbrev pub past : Option ℕ → ℕ
-past None = 0
-past (Some i) = suc i
+-- ---- the gates that the arcs from u enter
+module _ (arcs : List Arc) (u i : ℕ) (h : i < length arcs) where
+  abbrev from_u : List Arc → List Arc
+  from_u = filter (λ a. eqb a.from u)
 
-abbrev pub seen : List Arc → Option ℕ → List Arc
-seen arcs o = drop (past o) arcs
+  abbrev here : Arc
+  here = get_or arcs i nowhere
 
--- the arc at hand, if any, leaves u
-abbrev pub Leaves : List Arc → ℕ → Option ℕ → Type 0
-Leaves arcs u None = Unit {0}
-Leaves arcs u (Some i) = (i < length arcs) × ((get_or arcs i nowhere).from ≡ u)
+  pub heads_yes : here.from ≡ u → heads (take (i + 1) arcs) u ≡ here.to ∷ heads (take i arcs) u
+  heads_yes e =
+      ap (λ xs. map (λ a. a.to) (reverse xs)) (filter_more (λ a. eqb a.from u) arcs i nowhere h ∙ ap (λ b. from_u (take i arcs) ++ cond b (here ∷ []) []) (eq-eqb here.from u e))
+      ∙ ap (map (λ a. a.to)) (reverse-append (from_u (take i arcs)) (here ∷ []))
 
--- one arc more from u to goal
-pub record OneMore (arcs : List Arc) (n u goal : ℕ) (old new : List Arc) : Type 0 where
-  pub inner : (0 < goal) × (goal < n)
-  pub counts : count_by (between u goal) new ≡ count_by (between u goal) old + 1
-  pub others : (v : ℕ) → (v ≡ goal → ⊥) → count_by (between u v) new ≡ count_by (between u v) old
-  pub most : count_by (between u goal) new ≤ count_by (between u goal) arcs
+  heads_no : (here.from ≡ u → ⊥) → heads (take (i + 1) arcs) u ≡ heads (take i arcs) u
+  heads_no f =
+      ap (λ xs. map (λ a. a.to) (reverse xs))
+      (filter_more (λ a. eqb a.from u) arcs i nowhere h ∙ ap (λ b. from_u (take i arcs) ++ cond b (here ∷ []) []) (ne_eqb here.from u f) ∙ append-nil (from_u (take i arcs)))
 
-leaves : (arcs : List Arc) (u m : ℕ) (o : Option ℕ) → m ≤ length arcs → Last arcs u m o → Leaves arcs u o
-leaves arcs u m None h l = tt
-leaves arcs u m (Some i) h l = ((let a = l.0 in omega arith), l.1)
+heads_gap : (arcs : List Arc) (u i j : ℕ) → i ≤ j → j ≤ length arcs → ((k : ℕ) → i ≤ k → k < j → (get_or arcs k nowhere).from ≡ u → ⊥) → heads (take j arcs) u ≡ heads (take i arcs) u
+heads_gap arcs u i zero l h f = let z : 0 ≡ i = omega arith in ap (λ (k : ℕ). heads (take k arcs) u) z
+heads_gap arcs u i (suc j) l h f = elim (cases_eq i (suc j)) [
+  | inl q ↦ ap (λ (k : ℕ). heads (take k arcs) u) (sym q)
+  | inr n ↦
+      let s : suc j ≡ j + 1 = omega arith in
+      ap (λ (k : ℕ). heads (take k arcs) u) s ∙ heads_no arcs u j (omega arith) (f j (omega arith) (omega arith)) ∙ heads_gap arcs u i j (omega arith) (omega arith) (λ k a b. f k a (omega arith))
+]
 
-skipped : (arcs : List Arc) (u m : ℕ) (o : Option ℕ) → m ≤ length arcs → Last arcs u m o → (v : ℕ) → count_by (between u v) (seen arcs o) ≡ count_by (between u v) (drop m arcs)
-skipped arcs u m None h l v = count_gap (between u v) arcs nowhere 0 m (omega arith) h (λ k i j. and_left _ _ (ne_eqb _ _ (l k j)))
-skipped arcs u m (Some i) h l v = count_gap (between u v) arcs nowhere (suc i) m (let a = l.0 in omega arith) h (λ k j b. and_left _ _ (ne_eqb _ _ (l.2 k (omega arith) b)))
+-- none are left out between the arcs of a group
+skipped : (arcs : List Arc) (u m : ℕ) (o : Option ℕ) → m ≤ length arcs → Last arcs u m o → heads (take m arcs) u ≡ heads (take (past o) arcs) u
+skipped arcs u m None h l = heads_gap arcs u 0 m (omega arith) h (λ k a b. l k b)
+skipped arcs u m (Some i) h l = heads_gap arcs u (suc i) m (let a = l.0 in omega arith) h (λ k a b. l.2 k (omega arith) b)
 
-pub begin : (arcs : List Arc) (u : ℕ) (o : Option ℕ) → Last arcs u (length arcs) o → Leaves arcs u o × ((v : ℕ) → count_by (between u v) (seen arcs o) ≡ 0)
-begin arcs u o l = (
-  leaves arcs u (length arcs) o (omega arith) l,
-  λ v. skipped arcs u (length arcs) o (omega arith) l v ∙ ap (count_by (between u v)) (drop_all (length arcs) arcs (omega arith)),
-)
+-- each gate is entered by as many arcs from u as it stands among the heads
+entered_front : (arcs : List Arc) (u v m : ℕ) → m ≤ length arcs → entered (heads (take m arcs) u) v ≡ count_by (between u v) (take m arcs)
+entered_front arcs u v zero h = refl
+entered_front arcs u v (suc m) h =
+    let s : suc m ≡ m + 1 = omega arith in
+    let old = entered_front arcs u v m (omega arith) in
+    let a = get_or arcs m nowhere in
+    ap (λ (k : ℕ). entered (heads (take k arcs) u) v) s ∙ elim (cases_eq a.from u) [
+      | inl e ↦
+          let y = ap (λ hs. entered hs v) (heads_yes arcs u m h e) in
+          let c = sum_by-cons (λ x. cond (eqb x v) 1 0) a.to (heads (take m arcs) u) in
+          elim (cases_eq a.to v) [
+            | inl t ↦ let p = count_by_more_yes (between u v) arcs m nowhere h (and_from _ _ (eq-eqb _ _ e) (eq-eqb _ _ t)) in let b = ap bit (eq-eqb a.to v t) in omega arith
+            | inr t ↦ let p = count_by_more_no (between u v) arcs m nowhere h (and_right _ _ (ne_eqb _ _ t)) in let b = ap bit (ne_eqb a.to v t) in omega arith
+          ]
+      | inr f ↦
+          let y = ap (λ hs. entered hs v) (heads_no arcs u m h f) in
+          let p = count_by_more_no (between u v) arcs m nowhere h (and_left _ _ (ne_eqb _ _ f)) in
+          omega arith
+    ] ∙ ap (λ (k : ℕ). count_by (between u v) (take k arcs)) (sym s)
 
-module _ (arcs : List Arc) (n u i : ℕ) (at : Option ℕ) (earlier : List (Option ℕ)) (within : Within n arcs) (is : at ≡ Some i) (here : Leaves arcs u at)
-    (steps : (k : ℕ) → k < length arcs → Last arcs (get_or arcs k nowhere).from k (get_or earlier k None)) where
-  pub at_hand : (i < length arcs) × ((get_or arcs i nowhere).from ≡ u)
-  at_hand = subst (Leaves arcs u) is here
+pub entered_all : (arcs : List Arc) (u v : ℕ) → entered (heads arcs u) v ≡ count_by (between u v) arcs
+entered_all arcs u v =
+    let t = take_all (length arcs) arcs (omega arith) in
+    ap (λ (xs : List Arc). entered (heads xs u) v) (sym t) ∙ entered_front arcs u v (length arcs) (omega arith) ∙ ap (count_by (between u v)) t
 
-  abbrev next : Option ℕ
-  next = get_or earlier i None
+entered_push : (hs : List ℕ) (x v : ℕ) → entered (hs ++ x ∷ []) v ≡ entered hs v + bit (eqb x v)
+entered_push hs x v = let a = sum_by-append (λ h. bit (eqb h v)) hs (x ∷ []) in let b = sum_by-cons (λ h. bit (eqb h v)) x [] in omega arith
 
-  abbrev goal : ℕ
-  goal = (get_or arcs i nowhere).to
+pub entered_same : (hs : List ℕ) (x v : ℕ) → v ≡ x → entered (hs ++ x ∷ []) v ≡ entered hs v + 1
+entered_same hs x v e = let a = entered_push hs x v in let b = ap bit (eq-eqb x v (sym e)) in omega arith
 
-  short : i ≤ length arcs
-  short = let a = at_hand.0 in omega arith
+pub entered_other : (hs : List ℕ) (x v : ℕ) → (v ≡ x → ⊥) → entered (hs ++ x ∷ []) v ≡ entered hs v
+entered_other hs x v f = let a = entered_push hs x v in let b = ap bit (ne_eqb x v (λ e. f (sym e))) in omega arith
 
-  earlier_last : Last arcs u i next
-  earlier_last = subst (λ (g : ℕ). Last arcs g i next) at_hand.1 (steps i at_hand.0)
+-- ---- a head among the others
+module _ (arcs : List Arc) (u : ℕ) (hs : List ℕ) (x : ℕ) (rest : List ℕ) (all : hs ++ x ∷ rest ≡ heads arcs u) where
+  -- it stands less often before itself than in all
+  pub among : entered hs x < count_by (between u x) arcs
+  among =
+      let a = entered_all arcs u x in
+      let b = ap (λ (xs : List ℕ). entered xs x) all in
+      let d = sum_by-append (λ h. bit (eqb h x)) hs (x ∷ rest) in
+      let e = sum_by-cons (λ h. bit (eqb h x)) x rest in
+      let f = ap bit (eq-eqb x x refl) in
+      omega arith
 
-  pub leaves_next : Leaves arcs u next
-  leaves_next = leaves arcs u i next short earlier_last
+  pub among_inner : (n : ℕ) → Within n arcs → (0 < x) × (x < n)
+  among_inner n within = head_inner n arcs within u x (let a = among in omega arith)
 
-  pub goes_down : past next < past at
-  goes_down = subst (λ (o : Option ℕ). past next < past o) (sym is) (below next earlier_last)
-    where
-      below : (o : Option ℕ) → Last arcs u i o → past o < suc i
-      below None l = omega arith
-      below (Some k) l = let a = l.0 in omega arith
+-- ---- one step along a group
+module _ (arcs : List Arc) (last earlier : List (Option ℕ)) (groups : Grouped arcs (length arcs) last earlier) (u : ℕ) where
+  pub heads_first : u < 128 → heads (take (past (get_or last u None)) arcs) u ≡ heads arcs u
+  heads_first h = sym (skipped arcs u (length arcs) _ (omega arith) (groups.ends u h)) ∙ ap (λ (xs : List Arc). heads xs u) (take_all (length arcs) arcs (omega arith))
 
-  pub one_more : OneMore arcs n u goal (seen arcs at) (seen arcs next)
-  one_more = subst (λ (o : Option ℕ). OneMore arcs n u goal (seen arcs o) (seen arcs next)) (sym is) record {
-    inner = ((within i at_hand.0).enters, (within i at_hand.0).entered);
-    counts = skipped arcs u i next short earlier_last goal ∙ count_drop_yes (between u goal) arcs nowhere i at_hand.0 (and_from _ _ (eq-eqb _ _ at_hand.1) (eq-eqb goal goal refl));
-    others = λ v f. skipped arcs u i next short earlier_last v ∙ count_drop_no (between u v) arcs nowhere i at_hand.0 (and_right _ _ (ne_eqb _ _ (λ q. f (sym q))));
-    most = (let a = sum_by-take-drop (λ x. cond (between u goal x) 1 0) arcs (past next) in omega arith);
-  }
+  module _ (i : ℕ) (at : Option ℕ) (is : at ≡ Some i) (here : Leaves arcs u at) where
+    at_hand : (i < length arcs) × ((get_or arcs i nowhere).from ≡ u)
+    at_hand = subst (Leaves arcs u) is here
+
+    before_it : Last arcs u i (get_or earlier i None)
+    before_it = subst (λ (g : ℕ). Last arcs g i (get_or earlier i None)) at_hand.1 (groups.steps i at_hand.0)
+
+    pub heads_next : heads (take (past at) arcs) u ≡ (get_or arcs i nowhere).to ∷ heads (take (past (get_or earlier i None)) arcs) u
+    heads_next =
+        let s : suc i ≡ i + 1 = omega arith in
+        ap (λ o. heads (take (past o) arcs) u) is ∙ ap (λ (k : ℕ). heads (take k arcs) u) s
+        ∙ heads_yes arcs u i at_hand.0 at_hand.1
+        ∙ ap (λ hs. (get_or arcs i nowhere).to ∷ hs) (skipped arcs u i _ (let a = at_hand.0 in omega arith) before_it)

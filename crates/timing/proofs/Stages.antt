@@ -1,13 +1,15 @@
 -- The gates that are taken in order, and what is known when some are.
-use Rattle.std.proofs.Common.{◌≡◌, ℕ, zero, suc, ◌+◌, ◌-◌, ◌*◌, ◌<◌, ◌≤◌, Bool, true, false, cond, not, ◌&&◌, eqb, ◌⊎◌, List, [], ◌∷◌, length, get_or, count_by, sym, refl, ap, ◌∙◌, subst, inl, inr, arith}
-use Rattle.std.proofs.lemmas.Bool.{cases_eq, cases_lt, cases_Bool, eq-eqb, ne_eqb, eqb-true, and_from, and_parts, and_cases, not-false, not-true, both_ways}
+use Rattle.std.proofs.Common.{◌≡◌, ℕ, zero, suc, ◌+◌, ◌-◌, ◌*◌, ◌<◌, ◌≤◌, max, Bool, true, false, not, ◌&&◌, eqb, ◌⊎◌, List, [], ◌∷◌, length, get_or, count_by, sym, refl, ap, ◌∙◌, subst, inl, inr, arith}
+use Rattle.std.proofs.lemmas.Bool.{cases_eq, cases_lt, cases_Bool, eq-eqb, ne_eqb, eqb-true, and_parts, and_cases, not-false, not-true, both_ways}
+use Rattle.std.specs.Bool.{then_some}
 use Rattle.model.specs.Circuit.{◌∈◌}
 use Rattle.model.specs.Limits.{Different}
 use Rattle.timing.specs.declared.Arc.{Arc}
-use Rattle.timing.specs.Arcs.{nowhere, Within, Hop, Walk, hop, more, Run, alone, on, spent, Longest, Arrives, NoLoop, into, between, inflow}
+use Rattle.timing.specs.Arcs.{nowhere, Within, Hop, Walk, hop, more, Run, alone, on, spent, Longest, Arrives, NoLoop, Timed, into, between, inflow}
 use Rattle.timing.specs.Lowered.{Lowerable, Lowered, Raised, Seeded}
 use Rattle.timing.specs.Marks.{undone}
-use Rattle.timing.proofs.Counting.{count_none, count_some, count_split, count_same, also, also_same, also_other, also_old, undone_less, undone_none, undone_some, host, undone_host}
+use Rattle.timing.proofs.Counting.{bit, count_none, count_some, count_split, count_same, also, also_same, also_other, also_old, undone_less, undone_none, undone_some, host, undone_host}
+use Rattle.timing.proofs.Hops.{hop_inner, hop_count, count_hop, head_inner}
 use Rattle.timing.proofs.Chase.{before, loops}
 
 -- when v is done
@@ -34,19 +36,11 @@ pub record Stage (ds : List ℕ) (arcs : List Arc) (counts times ready : List �
   pub small : period + 65535 * left ≤ 65535 * length ds
   pub lefts : left ≡ undone taken (length ds)
 
-pub within_more : (m n : ℕ) (arcs : List Arc) → m ≤ n → Within m arcs → Within n arcs
-within_more m n arcs l within k h =
-    let i = within k h in
-    record { leaves = i.leaves; left = (let a = i.left in omega arith); enters = i.enters; entered = (let a = i.entered in omega arith) }
-
 pub at_front : {ds : List ℕ} {arcs : List Arc} {counts times old : List ℕ} {period left : ℕ} {taken : ℕ → Bool} {u : ℕ} {rest : List ℕ}
     → old ≡ u ∷ rest → Stage ds arcs counts times old period left taken → Stage ds arcs counts times (u ∷ rest) period left taken
 at_front {ds} {arcs} {counts} {times} {old} {period} {left} {taken} e s = subst (λ (xs : List ℕ). Stage ds arcs counts times xs period left taken) e s
 
 -- ---- one gate more
-abbrev bit : Bool → ℕ
-bit b = cond b 1 0
-
 -- the arcs from u are those that its taking takes off
 parted : (taken : ℕ → Bool) (u v : ℕ) → taken u ≡ false → (a : Arc)
     → bit (eqb a.to v && not (taken a.from)) ≡ bit (eqb a.to v && not (also u taken a.from)) + bit (between u v a)
@@ -84,24 +78,6 @@ from_taken arcs taken v z k h e =
       | inr f ↦ not-false _ f
     ]
 
-hop_inner : (n : ℕ) (arcs : List Arc) → Within n arcs → (x v : ℕ) → Hop arcs x v → (0 < x) × (x < n)
-hop_inner n arcs within x v h =
-    let i = within h.place h.there in
-    subst (λ (y : ℕ). (0 < y) × (y < n)) h.leaves (i.leaves, i.left)
-
--- an arc from u to v is counted, and what is counted is one
-hop_count : (arcs : List Arc) (u v : ℕ) → Hop arcs u v → 0 < count_by (between u v) arcs
-hop_count arcs u v h = elim (cases_eq (count_by (between u v) arcs) 0) [
-  | inl z ↦ absurd (both_ways _ (count_none (between u v) arcs nowhere z h.place h.there) (and_from _ _ (eq-eqb _ _ h.leaves) (eq-eqb _ _ h.enters)))
-  | inr f ↦ omega arith
-]
-
-count_hop : (arcs : List Arc) (u v : ℕ) → 0 < count_by (between u v) arcs → Hop arcs u v
-count_hop arcs u v p =
-    let m = count_some (between u v) arcs nowhere p in
-    let b = and_parts _ _ m.2 in
-    record { place = m.0; there = m.1; leaves = eqb-true _ _ b.0; enters = eqb-true _ _ b.1 }
-
 module _ (ds : List ℕ) (arcs : List Arc) (within : Within (length ds) arcs) (counts times rest : List ℕ) (period left u : ℕ) (taken : ℕ → Bool)
     (stage : Stage ds arcs counts times (u ∷ rest) period left taken) where
   q : (0 < u) × (u < length ds) × (taken u ≡ false) × (get_or counts u 0 ≡ 0)
@@ -115,11 +91,17 @@ module _ (ds : List ℕ) (arcs : List Arc) (within : Within (length ds) arcs) (c
       let t = from_taken arcs taken u z h.place h.there h.enters in
       (i.0, i.1, ap taken (sym h.leaves) ∙ t)
 
-  pub lowerable : Lowerable arcs (length ds) u counts rest
-  lowerable = record {
-    covers = λ v o l. let a = split arcs taken u v q.2 in let b = stage.counted v o l in omega arith;
+  pub lowerable : (m : ℕ) → length ds ≤ m → Lowerable arcs m u counts rest
+  lowerable m wide = record {
+    covers = λ v o l. elim (cases_eq (count_by (between u v) arcs) 0) [
+      | inl z ↦ omega arith
+      | inr f ↦
+          let a = split arcs taken u v q.2 in
+          let b = stage.counted v o (head_inner (length ds) arcs within u v (omega arith)).1 in
+          omega arith
+    ];
     different = stage.different.1;
-    zero = λ v m. let a = stage.queued v (inr m) in (a.1, a.3);
+    zero = λ v k. let a = stage.queued v (inr k) in (omega arith, a.3);
   }
 
   -- u is not among the others that are ready
@@ -167,13 +149,13 @@ module _ (ds : List ℕ) (arcs : List Arc) (within : Within (length ds) arcs) (c
     | inr m ↦ let t = hop_taken m.0 m.1 in let a = stage.most m.0 t.0 t.1 t.2 in let d = m.3 in omega arith
   ]
 
-  module _ (slow : get_or ds u 0 ≤ 65535) (next : ℕ) (over : (period ≤ next) × (time ≤ next)) (either : (next ≡ period) ⊎ (next ≡ time))
-      (later : List ℕ) (rise : Raised arcs u time times later) (lowered ready : List ℕ) (low : Lowered arcs (length ds) u counts lowered rest ready) where
+  module _ (slow : get_or ds u 0 ≤ 65535) (next : ℕ) (is : next ≡ max period time)
+      (later : List ℕ) (rise : Raised arcs u time times later) (m : ℕ) (wide : length ds ≤ m) (lowered ready : List ℕ) (low : Lowered arcs m u counts lowered rest ready) where
     abbrev then : ℕ → Bool
     then = also u taken
 
     less : (v : ℕ) → v < length ds → get_or lowered v 0 ≤ get_or counts v 0
-    less v h = let a = low.less v h in omega arith
+    less v h = let a = low.less v (omega arith) in omega arith
 
     -- then a gate was not taken before, and is not u
     not_then : (v : ℕ) → then v ≡ false → (v ≡ u → ⊥) × (taken v ≡ false)
@@ -191,11 +173,12 @@ module _ (ds : List ℕ) (arcs : List Arc) (within : Within (length ds) arcs) (c
           (a.0, a.1, also_other u taken v (apart v b) ∙ a.2, (let l = less v a.1 in let z = a.3 in omega arith))
       | inr t ↦
           let f : v ≡ u → ⊥ = λ e. let c : get_or counts v 0 ≡ get_or counts u 0 = ap (λ (g : ℕ). get_or counts g 0) e in let z = q.3 in let p = t.1 in omega arith in
+          let inside = head_inner (length ds) arcs within u v (let a = low.less v t.0 in let p = t.1 in let z = t.2 in omega arith) in
           let free : taken v ≡ false = elim (cases_Bool (taken v)) [
-            | inl e ↦ absurd (let z = stage.closed v t.3 t.0 e in let p = t.1 in omega arith)
+            | inl e ↦ absurd (let z = stage.closed v t.3 inside.1 e in let p = t.1 in omega arith)
             | inr e ↦ e
           ] in
-          (t.3, t.0, also_other u taken v f ∙ free, t.2)
+          (t.3, inside.1, also_other u taken v f ∙ free, t.2)
     ]
 
     waiting_then : (v : ℕ) → 0 < v → v < length ds → then v ≡ false → get_or lowered v 0 ≡ 0 → v ∈ ready
@@ -203,7 +186,7 @@ module _ (ds : List ℕ) (arcs : List Arc) (within : Within (length ds) arcs) (c
         let n = not_then v e in
         elim (cases_eq (get_or counts v 0) 0) [
           | inl c ↦ elim (stage.waiting v o l n.1 c) [ inl s ↦ absurd (n.0 s) | inr m ↦ low.kept v m ]
-          | inr c ↦ low.found v l (omega arith) z
+          | inr c ↦ low.found v (omega arith) (omega arith) z
         ]
 
     counted_out : (v : ℕ) → 0 < v → v < length ds → then v ≡ true → get_or counts v 0 ≡ 0
@@ -214,7 +197,7 @@ module _ (ds : List ℕ) (arcs : List Arc) (within : Within (length ds) arcs) (c
 
     -- the times of the taken gates stay
     stays : (v : ℕ) → 0 < v → v < length ds → then v ≡ true → get_or later v 0 ≡ get_or times v 0
-    stays v o l e = rise.kept v (let a = low.less v l in let z = counted_out v o l e in omega arith)
+    stays v o l e = rise.kept v (let a = low.less v (omega arith) in let z = counted_out v o l e in omega arith)
 
     grows : (v : ℕ) → get_or times v 0 ≤ get_or later v 0
     grows v = elim (cases_eq (count_by (between u v) arcs) 0) [
@@ -285,20 +268,20 @@ module _ (ds : List ℕ) (arcs : List Arc) (within : Within (length ds) arcs) (c
     most_then v o l e =
         let a = stays v o l e in
         elim (then_was v e) [
-          | inl s ↦ let b = ap (done ds times) s in let d = over.1 in omega arith
-          | inr t ↦ let b = stage.most v o l t.1 in let d = over.0 in omega arith
+          | inl s ↦ let b = ap (done ds times) s in omega arith
+          | inr t ↦ let b = stage.most v o l t.1 in omega arith
         ]
 
     met_then : (next ≡ 0) ⊎ ((x : ℕ) × (v : ℕ) × (r : Run ds arcs x v) × (spent r ≡ next))
-    met_then = elim either [
-      | inl e ↦ elim stage.met [ inl z ↦ inl (e ∙ z) | inr m ↦ inr (m.0, m.1, m.2, m.3 ∙ sym e) ]
-      | inr e ↦ let a = arrives_met in inr (a.0, u, a.1, a.2 ∙ sym e)
+    met_then = elim (cases_lt period time) [
+      | inl h ↦ let a = arrives_met in inr (a.0, u, a.1, a.2 ∙ (omega arith))
+      | inr h ↦ let e : next ≡ period = omega arith in elim stage.met [ inl z ↦ inl (e ∙ z) | inr m ↦ inr (m.0, m.1, m.2, m.3 ∙ sym e) ]
     ]
 
     pub advanced : Stage ds arcs lowered later ready next (left - 1) then
     advanced = record {
       idle = also_old u taken 0 stage.idle;
-      counted = λ v o l. let a = split arcs taken u v q.2 in let b = stage.counted v o l in let d = low.less v l in omega arith;
+      counted = λ v o l. let a = split arcs taken u v q.2 in let b = stage.counted v o l in let d = low.less v (omega arith) in omega arith;
       different = low.different;
       queued = queued_then;
       waiting = waiting_then;
@@ -308,7 +291,7 @@ module _ (ds : List ℕ) (arcs : List Arc) (within : Within (length ds) arcs) (c
       clear = clear_then;
       most = most_then;
       met = met_then;
-      small = (let a = stage.small in let b = start_most in let d = some_left in elim either [ inl e ↦ omega arith | inr e ↦ omega arith ]);
+      small = (let a = stage.small in let b = start_most in let d = some_left in omega arith);
       lefts = (let a = undone_less taken u (length ds) q.1 q.2 in let b = stage.lefts in omega arith);
     }
 
@@ -359,7 +342,7 @@ walk_end ds arcs within u v (more w h) =
 
 module _ (ds : List ℕ) (arcs : List Arc) (within : Within (length ds) arcs) (counts times ready : List ℕ) (period left : ℕ) (taken : ℕ → Bool)
     (stage : Stage ds arcs counts times ready period left taken) where
-  pub all_taken : left ≡ 0 → NoLoop arcs × Longest ds arcs period
+  all_taken : left ≡ 0 → NoLoop arcs × Longest ds arcs period
   all_taken z =
       let every : (k : ℕ) → k < length ds → taken k ≡ true = undone_none taken (length ds) (sym stage.lefts ∙ z) in (
         (λ v w. let i = walk_end ds arcs within v v w in stage.clear v i.0 i.1 (every v i.1) w),
@@ -373,7 +356,7 @@ module _ (ds : List ℕ) (arcs : List Arc) (within : Within (length ds) arcs) (c
         },
       )
 
-  pub stuck : ready ≡ [] → 0 < left → (v : ℕ) × Walk arcs v v
+  stuck : ready ≡ [] → 0 < left → (v : ℕ) × Walk arcs v v
   stuck none some =
       let f = undone_some taken (length ds) (let a = stage.lefts in omega arith) in
       loops arcs (length ds) taken prev f.0 f.1 f.2
@@ -388,3 +371,9 @@ module _ (ds : List ℕ) (arcs : List Arc) (within : Within (length ds) arcs) (c
           let m = count_some (λ a. eqb a.to v && not (taken a.from)) arcs nowhere w in
           let p = and_parts _ _ m.2 in
           ((get_or arcs m.0 nowhere).from, record { place = m.0; there = m.1; leaves = refl; enters = eqb-true _ _ p.0 }, (within m.0 m.1).left, not-true _ p.1)
+
+  pub settled : ready ≡ [] → Timed ds arcs (then_some (eqb left 0) period)
+  settled none = elim (cases_eq left 0) [
+    | inl z ↦ subst (λ b. Timed ds arcs (then_some b period)) (sym (eq-eqb left 0 z)) (all_taken z)
+    | inr f ↦ subst (λ b. Timed ds arcs (then_some b period)) (sym (ne_eqb left 0 f)) (stuck none (omega arith))
+  ]

@@ -11,17 +11,26 @@ pub record Lowerable (arcs : List Arc) (n u : ℕ) (counts ready : List ℕ) : T
   pub different : Different ready
   pub zero : (v : ℕ) → v ∈ ready → (v < n) × (slice_index counts v ≡ 0)
 
-pub record Lowered (arcs : List Arc) (n u : ℕ) (old new before after : List ℕ) : Type 0 where
-  pub less : (v : ℕ) → v < n → slice_index new v + count_by (between u v) arcs ≡ slice_index old v
+-- each count is less by how often its gate is entered, and what falls to 0 is ready
+pub record LoweredBy (entered : ℕ → ℕ) (n : ℕ) (old new before after : List ℕ) : Type 0 where
+  pub less : (v : ℕ) → v < n → slice_index new v + entered v ≡ slice_index old v
   pub different : Different after
   pub kept : (v : ℕ) → v ∈ before → v ∈ after
   pub fresh : (v : ℕ) → v ∈ after → (v ∈ before) ⊎ ((v < n) × (0 < slice_index old v) × (slice_index new v ≡ 0) × (0 < v))
   pub found : (v : ℕ) → v < n → 0 < slice_index old v → slice_index new v ≡ 0 → v ∈ after
 
--- no gate that an arc from u enters stays below t, and the others stay as they are
-pub record Raised (arcs : List Arc) (u t : ℕ) (old new : List ℕ) : Type 0 where
-  pub kept : (v : ℕ) → count_by (between u v) arcs ≡ 0 → slice_index new v ≡ slice_index old v
-  pub raised : (v : ℕ) → 0 < count_by (between u v) arcs → slice_index new v ≡ max (slice_index old v) t
+-- by the arcs from u
+abbrev pub Lowered : List Arc → ℕ → ℕ → List ℕ → List ℕ → List ℕ → List ℕ → Type 0
+Lowered arcs n u = LoweredBy (λ v. count_by (between u v) arcs) n
+
+-- no gate that is entered stays below t, and the others stay as they are
+pub record RaisedBy (entered : ℕ → ℕ) (t : ℕ) (old new : List ℕ) : Type 0 where
+  pub kept : (v : ℕ) → entered v ≡ 0 → slice_index new v ≡ slice_index old v
+  pub raised : (v : ℕ) → 0 < entered v → slice_index new v ≡ max (slice_index old v) t
+
+-- by the arcs from u
+abbrev pub Raised : List Arc → ℕ → ℕ → List ℕ → List ℕ → Type 0
+Raised arcs u = RaisedBy (λ v. count_by (between u v) arcs)
 
 -- the gates below m but the host with the count 0
 pub record Seeded (counts : List ℕ) (m : ℕ) (ready : List ℕ) : Type 0 where

@@ -1,15 +1,14 @@
-ghost use Rattle.std.specs.Prelude.{◌≡◌, ◌≤◌, [], length, ◌==◌};
-ghost use Rattle.ring.specs.Held.{held, room, Pushed, Taken};
+ghost use Rattle.std.specs.Prelude.{◌≡◌, ◌<◌, ◌≤◌, [], length, ◌==◌};
+ghost use Rattle.ring.specs.Held.{Pushed, Taken};
 ghost use Rattle.ring.specs.Turned.{placed};
 
 use super::Ring;
 
-// Every method works for any `first` and `count`: a `first` past the slots is as good as 0, a `count` past them as all of them.
 impl<'a, T: Copy> Ring<'a, T> {
     // An empty ring over the slots.
     pub fn new(slots: &'a mut [T]) -> Ring<'a, T>
-        ensures empty { held result ≡ [] }
-        ensures size { room result ≡ length slots.old }
+        ensures empty { result.held ≡ [] }
+        ensures size { result.room ≡ length slots.old }
     {
         Ring {
             slots,
@@ -20,14 +19,14 @@ impl<'a, T: Copy> Ring<'a, T> {
 
     // How many elements it holds.
     pub fn len(&self) -> usize
-        ensures { result ≡ length (held self.now) }
+        ensures { result ≡ length self.now.held }
     {
-        self.count.min(self.slots.len())
+        self.count
     }
 
     // Whether it holds as many elements as it has slots; a ring of no slots is full.
     pub fn is_full(&self) -> bool
-        ensures { result ≡ (length (held self.now) == room self.now) }
+        ensures { result ≡ (length self.now.held == self.now.room) }
     {
         self.len() == self.slots.len()
     }
@@ -37,7 +36,7 @@ impl<'a, T: Copy> Ring<'a, T> {
         ensures { Pushed self.old x self.new result }
     {
         let room = self.slots.len();
-        if self.count >= room {
+        if self.count == room {
             return Err(x);
         }
         let at = place(self.first, self.count, room);
@@ -47,28 +46,26 @@ impl<'a, T: Copy> Ring<'a, T> {
     }
 
     // Takes the oldest out.
+    #[tactic(auto, using(crate::proofs::Rings::ringed_take))]
     pub fn take(&mut self) -> Option<T>
         ensures { Taken self.old self.new result }
     {
-        let count = self.len();
-        if count == 0 {
+        if self.count == 0 {
             return None;
         }
-        let room = self.slots.len();
-        let at = place(self.first, 0, room);
-        let x = self.slots[at];
-        self.first = place(at, 1, room);
-        self.count = count - 1;
+        let x = self.slots[self.first];
+        self.first = place(self.first, 1, self.slots.len());
+        self.count -= 1;
         Some(x)
     }
 }
 
-// The slot that lies `count` places after `first`.
+// The slot that lies `count` places after `first`. The sum of the two may be beyond a usize, since elements of no size have no limit.
 fn place(first: usize, count: usize, size: usize) -> usize
-    requires { count ≤ size }
+    requires { (first < size) × (count ≤ size) }
     ensures { result ≡ placed first count size }
 {
-    let after = size.saturating_sub(first);
+    let after = size - first;
     if count < after {
         first + count
     } else {

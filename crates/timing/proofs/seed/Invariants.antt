@@ -1,7 +1,6 @@
-use Rattle.std.proofs.Common.{◌≡◌}
-use Rattle.ring.specs.Held.{held, room}
+use Rattle.std.proofs.Common.{◌≡◌, ◌+◌, length}
 use Rattle.timing.specs.Lowered.{Seeded}
 use Rattle.timing.proofs.seed.Given as goal
 
-abbrev pub invariant-loop-g : goal.invariant-loop-g
-invariant-loop-g l = (room l.ready ≡ room l.initial.ready) × Seeded l.counts l.g (held l.ready)
+abbrev pub invariant-loop-gate : goal.invariant-loop-gate
+invariant-loop-gate l = record { room : l.ready.room ≡ l.initial.ready.room; seeded : Seeded l.counts (length l.yielded + 1) l.ready.held }

@@ -1,42 +1,37 @@
-use Rattle.std.proofs.Common.{◌≡◌, ℕ, ◌+◌, ◌*◌, ◌<◌, ◌≤◌, ◌⊎◌, ◌∷◌, length, get_or, sym, refl, subst, inl, inr, arith}
-use Rattle.ring.specs.Held.{held}
-use Rattle.timing.specs.Arcs.{Within}
-use Rattle.timing.specs.Lowered.{Lowerable, Lowered, Raised, Seeded}
+use Rattle.std.proofs.Common.{◌≡◌, ℕ, ◌+◌, ◌*◌, ◌<◌, ◌≤◌, ◌∷◌, List, length, get_or, count_by, sym, refl, ap, ◌∙◌, subst, inl, arith}
+use Rattle.timing.specs.declared.Arc.{Arc}
+use Rattle.timing.specs.Arcs.{into}
+use Rattle.timing.specs.Lowered.{Lowerable, Lowered, Raised}
+use Rattle.timing.proofs.Blank.{blank_all}
 use Rattle.timing.proofs.Counting.{also, host}
+use Rattle.timing.proofs.Seeding.{seeded_front}
 use Rattle.timing.proofs.Stages as lemma
-use Rattle.timing.proofs.Stages.{Stage, at_front, done, within_more}
+use Rattle.timing.proofs.Stages.{Stage, at_front, done}
 use Rattle.timing.proofs.settle.Goals as goal
-use Rattle.timing.proofs.settle.Goals.{then-time-period, else-time-period, In-Some}
-
-pub grouped-fanout-requires : goal.grouped-fanout-requires
-grouped-fanout-requires c = (c.requires.in_bounds.2, within_more (length c.args.delays.now) 128 c.args.arcs.now c.requires.in_bounds.1 c.requires.in_bounds.3)
-
-pub tally-requires : goal.tally-requires
-tally-requires c = (c.requires.in_bounds.2, subst (λ (n : ℕ). Within n c.args.arcs.now) (sym c.requires.counts_clear.0) c.requires.in_bounds.3, c.requires.counts_clear.1)
+use Rattle.timing.proofs.settle.Goals.{In-Some}
 
 pub loop-gate-init : goal.loop-gate-init
 loop-gate-init c =
     let ds = c.args.delays.now in
     let arcs = c.args.arcs.now in
-    let counts = c.tally.new.counts in
-    let ready = held c.seed.new.ready in
-    let n : length counts ≡ length ds = let a = c.tally.auto.counts in let b = c.requires.counts_clear.0 in omega arith in
-    let s : Seeded counts (length ds) ready = subst (λ (m : ℕ). Seeded counts m ready) n c.seed.ensures.seeded in
-    let st = lemma.begun ds arcs c.requires.in_bounds.0 c.requires.in_bounds.3 counts c.args.times.now ready c.tally.ensures s c.requires.times_clear.1 in
-    ((let a = c.seed.ensures.room in let b = c.requires.empty_with_room.0 in omega arith), (host, st))
+    let counts = c.tally-counts.result in
+    let ready = c.seed.new.ready.held in
+    let tallied : (v : ℕ) → get_or counts v 0 ≡ count_by (into v) arcs = λ v. c.tally-counts.ensures v ∙ ap (count_by (into v)) c.new-fanout.ensures in
+    let seeded = seeded_front counts (length ds) ready (omega arith) c.seed.ensures.seeded in
+    record { room = omega arith; stage = (host, lemma.begun ds arcs c.requires.sizes.0 c.requires.within counts _ ready tallied seeded (λ k. blank_all 128 k 0)) }
 
 -- the stage, with the gate that was taken in front
-front : (c : In-Some) → Stage c.args.delays.now c.args.arcs.now c.loop-gate.counts c.loop-gate.times (c.in-Some.gate ∷ held c.take.new.self) c.loop-gate.period c.loop-gate.left c.loop-gate.invariant.1.0
-front c = at_front c.in-Some.ensures.0 c.loop-gate.invariant.1.1
+front : (c : In-Some) → Stage c.args.delays.now c.args.arcs.now c.loop-gate.counts c.loop-gate.times (c.in-Some.gate ∷ c.take.new.self.held) c.loop-gate.period c.loop-gate.left c.loop-gate.invariant.stage.0
+front c = at_front c.in-Some.ensures.0 c.loop-gate.invariant.stage.1
 
 inner : (c : In-Some) → c.in-Some.gate < length c.args.delays.now
 inner c = ((front c).queued c.in-Some.gate (inl refl)).1
 
 some_left : (c : In-Some) → 1 ≤ c.loop-gate.left
-some_left c = lemma.some_left c.args.delays.now c.args.arcs.now c.requires.in_bounds.3 c.loop-gate.counts c.loop-gate.times (held c.take.new.self) c.loop-gate.period c.loop-gate.left c.in-Some.gate c.loop-gate.invariant.1.0 (front c)
+some_left c = lemma.some_left c.args.delays.now c.args.arcs.now c.requires.within c.loop-gate.counts c.loop-gate.times c.take.new.self.held c.loop-gate.period c.loop-gate.left c.in-Some.gate c.loop-gate.invariant.stage.0 (front c)
 
 pub bounds-times-gate : goal.bounds-times-gate
-bounds-times-gate c = let a = inner (goal.at.bounds-times-gate c).In-Some in let b = c.requires.times_clear.0 in omega arith
+bounds-times-gate c = let s = at_front c.in-Some.ensures.0 c.loop-gate.invariant.stage.1 in let i = (s.queued c.in-Some.gate (inl refl)).1 in omega arith
 
 pub bounds-delays-gate : goal.bounds-delays-gate
 bounds-delays-gate c = inner (goal.at.bounds-delays-gate c).In-Some
@@ -46,10 +41,10 @@ overflow_add-time c =
     let ds = c.args.delays.now in
     let s = front (goal.at.overflow_add-time c).In-Some in
     let a : get_or c.loop-gate.times c.in-Some.gate 0 ≤ c.loop-gate.period =
-    lemma.start_most ds c.args.arcs.now c.requires.in_bounds.3 c.loop-gate.counts c.loop-gate.times (held c.take.new.self) c.loop-gate.period c.loop-gate.left c.in-Some.gate c.loop-gate.invariant.1.0 s in
+    lemma.start_most ds c.args.arcs.now c.requires.within c.loop-gate.counts c.loop-gate.times c.take.new.self.held c.loop-gate.period c.loop-gate.left c.in-Some.gate c.loop-gate.invariant.stage.0 s in
     let b : c.loop-gate.period + 65535 * c.loop-gate.left ≤ 65535 * length ds = s.small in
     let l = some_left (goal.at.overflow_add-time c).In-Some in
-    let n : length ds ≤ 128 = c.requires.in_bounds.1 in
+    let n : length ds ≤ 128 = c.requires.sizes.1 in
     let d = c.type_inv.delays c.in-Some.gate in
     let e = c.from.ensures in
     record { fits = omega arith }
@@ -57,30 +52,10 @@ overflow_add-time c =
 pub overflow_sub-left-in-Some : goal.overflow_sub-left-in-Some
 overflow_sub-left-in-Some c = some_left (goal.at.overflow_sub-left-in-Some c).In-Some
 
-pub raise-requires : goal.raise-requires
-raise-requires c =
-    let i = inner (goal.at.raise-requires c).In-Some in
-    let n : length c.args.delays.now ≡ length c.loop-gate.times = let a = c.requires.times_clear.0 in omega arith in
-    record {
-      in_bounds = ((let a = c.requires.in_bounds.1 in omega arith), subst (λ (m : ℕ). Within m c.args.arcs.now) n c.requires.in_bounds.3, c.requires.in_bounds.2);
-      grouped = c.grouped-fanout.ensures;
-    }
-
-pub lower-requires : goal.lower-requires
-lower-requires c =
-    let ds = c.args.delays.now in
-    let arcs = c.args.arcs.now in
-    let counts = c.loop-gate.counts in
-    let rest = held c.take.new.self in
-    let i = inner (goal.at.lower-requires c).In-Some in
-    let n : length ds ≡ length counts = let a = c.requires.counts_clear.0 in omega arith in
-    let l = lemma.lowerable ds arcs c.requires.in_bounds.3 counts c.loop-gate.times rest c.loop-gate.period c.loop-gate.left c.in-Some.gate c.loop-gate.invariant.1.0 (front (goal.at.lower-requires c).In-Some) in
-    record {
-      in_bounds = ((let a = c.requires.in_bounds.1 in omega arith), subst (λ (m : ℕ). Within m arcs) n c.requires.in_bounds.3, c.requires.in_bounds.2);
-      grouped = c.grouped-fanout.ensures;
-      enough_room = (let a = c.in-Some.ensures.1 in let b = c.loop-gate.invariant.0 in omega arith);
-      lowerable = subst (λ (m : ℕ). Lowerable arcs m c.in-Some.gate counts rest) n l;
-    }
+pub lower-requires-clause-lowerable : goal.lower-requires-clause-lowerable
+lower-requires-clause-lowerable c =
+    let l = lemma.lowerable c.args.delays.now c.args.arcs.now c.requires.within c.loop-gate.counts c.loop-gate.times c.take.new.self.held c.loop-gate.period c.loop-gate.left c.in-Some.gate c.loop-gate.invariant.stage.0 (front (goal.at.lower-requires-clause-lowerable c).In-Some) 128 c.requires.sizes.1 in
+    subst (λ (arcs : List Arc). Lowerable arcs 128 c.in-Some.gate c.loop-gate.counts c.take.new.self.held) (sym c.new-fanout.ensures) l
 
 pub loop-gate-smaller : goal.loop-gate-smaller
 loop-gate-smaller c = let l = some_left (goal.at.loop-gate-smaller c).In-Some in omega arith
@@ -94,36 +69,17 @@ loop-gate-preserved c =
     let times = c.loop-gate.times in
     let later = c.raise.new.times in
     let lowered = c.lower.new.counts in
-    let rest = held c.take.new.self in
-    let ready = held c.lower.new.ready in
+    let rest = c.take.new.self.held in
+    let ready = c.lower.new.ready.held in
     let u = c.in-Some.gate in
-    let period = c.loop-gate.period in
-    let left = c.loop-gate.left in
-    let next = c.if-time-period.period in
-    let taken = c.loop-gate.invariant.1.0 in
-    let n : length counts ≡ length ds = let a = c.requires.counts_clear.0 in omega arith in
     let d = c.type_inv.delays u in
-    let slow : get_or ds u 0 ≤ 65535 = omega arith in
-    let is : c.from.result ≡ get_or ds u 0 = c.from.ensures in
-    let rise : Raised arcs u (done ds times u) times later = subst (λ (t : ℕ). Raised arcs u (get_or times u 0 + t) times later) is c.raise.ensures in
-    let low : Lowered arcs (length ds) u counts lowered rest ready = subst (λ (m : ℕ). Lowered arcs m u counts lowered rest ready) n c.lower.ensures.lowered in
-    let over : (period ≤ next) × (done ds times u ≤ next) = elim c.if-time-period.branch [
-      | then-time-period w ↦ (omega (arith, w.period-is, w.if-time-period.true), omega (arith, w.period-is))
-      | else-time-period w ↦ (omega (arith, w.period-is), omega (arith, w.period-is, w.if-time-period.false))
-    ] in
-    let either : (next ≡ period) ⊎ (next ≡ done ds times u) = elim c.if-time-period.branch [
-      | then-time-period w ↦ inr (omega (arith, w.period-is))
-      | else-time-period w ↦ inl w.period-is
-    ] in
-    let st = lemma.advanced ds arcs c.requires.in_bounds.3 counts times rest period left u taken s slow next over either later rise lowered ready low in (
-      (let a = c.lower.ensures.room in let b = c.in-Some.ensures.1 in let e = c.loop-gate.invariant.0 in omega arith),
-      (also u taken, st),
-    )
+    let e : c.from.result ≡ get_or ds u 0 = c.from.ensures in
+    let rise : Raised arcs u (get_or times u 0 + c.from.result) times later = subst (λ (xs : List Arc). Raised xs u (get_or times u 0 + c.from.result) times later) c.new-fanout.ensures c.raise.ensures in
+    let low : Lowered arcs 128 u counts lowered rest ready = subst (λ (xs : List Arc). Lowered xs 128 u counts lowered rest ready) c.new-fanout.ensures c.lower.ensures.lowered in
+    record {
+      room = (let a = c.lower.ensures.room in let b = c.in-Some.ensures.1 in let e = c.loop-gate.invariant.room in omega arith);
+      stage = (also u c.loop-gate.invariant.stage.0, lemma.advanced ds arcs c.requires.within counts times rest c.loop-gate.period c.loop-gate.left u c.loop-gate.invariant.stage.0 s (omega arith) _ (omega arith) later (rw e at rise) 128 c.requires.sizes.1 lowered ready low);
+    }
 
-pub returns-then-left-eq0 : goal.returns-then-left-eq0
-returns-then-left-eq0 c = lemma.all_taken c.args.delays.now c.args.arcs.now c.requires.in_bounds.3 c.loop-gate.counts c.loop-gate.times (held c.loop-gate.ready) c.loop-gate.period c.loop-gate.left c.loop-gate.invariant.1.0 c.loop-gate.invariant.1.1 c.if-left-eq0.true
-
-pub returns-else-left-eq0 : goal.returns-else-left-eq0
-returns-else-left-eq0 c =
-    let some : 0 < c.loop-gate.left = let a = c.if-left-eq0.false in omega arith in
-    lemma.stuck c.args.delays.now c.args.arcs.now c.requires.in_bounds.3 c.loop-gate.counts c.loop-gate.times (held c.loop-gate.ready) c.loop-gate.period c.loop-gate.left c.loop-gate.invariant.1.0 c.loop-gate.invariant.1.1 c.in_default.ensures.0 some
+pub returns : goal.returns
+returns c = rw c.then_some.ensures (lemma.settled c.args.delays.now c.args.arcs.now c.requires.within c.loop-gate.counts c.loop-gate.times c.loop-gate.ready.held c.loop-gate.period c.loop-gate.left c.loop-gate.invariant.stage.0 c.loop-gate.invariant.stage.1 c.in_default.ensures.0)

@@ -1,20 +1,13 @@
-use Rattle.std.proofs.Common.{ℕ, sym, subst, inl, inr, arith}
-use Rattle.std.proofs.lemmas.Bool.{cases_eq, both_ways}
-use Rattle.timing.specs.Arcs.{Walk}
+use Rattle.std.proofs.Common.{◌≡◌, true, false, rules}
+use Rattle.std.proofs.lemmas.Iterator.{first_from_Range}
+use Rattle.timing.specs.Marks.{marked, Reached}
+use Rattle.timing.proofs.Marking.{spanned_first}
 use Rattle.timing.proofs.unreached.Goals as goal
-
-pub loop-g-preserved : goal.loop-g-preserved
-loop-g-preserved c h o l = elim (cases_eq h c.loop-g.g) [
-  | inl e ↦ subst (λ (x : ℕ). Walk c.args.arcs.now 0 x) (sym e) (c.reach.ensures.leads c.loop-g.g c.if-not-marks-g.false)
-  | inr f ↦ c.loop-g.invariant h o (omega arith)
-]
-
-pub returns-then-not-marks-g : goal.returns-then-not-marks-g
-returns-then-not-marks-g c = record {
-  inner = (omega arith, omega arith);
-  none = λ w. both_ways _ c.if-not-marks-g.true (c.reach.ensures.all c.loop-g.g w);
-  before = c.loop-g.invariant;
-}
+use borrow.Author.Tests.{tests}
 
 pub returns : goal.returns
-returns c h o l = c.loop-g.invariant h o (omega arith)
+returns c =
+    let marks = c.reached-marks.result in
+    let r : Reached c.args.arcs.now 0 marks = search rules in
+    let f = first_from_Range _ _ _ c.find.result (λ h. marked marks h ≡ false) (λ h. marked marks h ≡ true) c.find.ensures.ran (λ x q k. search (rules, tests)) (λ x q k. search (rules, tests)) in
+    spanned_first c.args.gates c.args.arcs.now marks r c.find.result f
