@@ -10,7 +10,7 @@ ghost use Rattle.timing.specs.Groups.{Grouped};
 use ring::ring::Ring;
 
 // A wire without registers between two gates, neither the host.
-#[derive(Clone, Copy)]
+#[derive(Clone, Copy, Default)]
 pub struct Arc {
     pub from: u8,
     pub to: u8,

@@ -1,8 +1,9 @@
-ghost use Rattle.std.specs.Prelude.{◌≡◌, None};
+ghost use Rattle.std.specs.Prelude.{◌≡◌, ◌<◌, length, None, IfOk};
 ghost use Rattle.graph.specs.Reads.{circuit};
-ghost use Rattle.graph.specs.Calls.{host_alone, after, gate_answer, with_gate, wire_answer, with_wire, set_answer, with_set, drop_answer, with_drop, clock_answer, with_clock};
+ghost use Rattle.graph.specs.Calls.{host_alone, after, gate_answer, with_gate, wire_answer, with_wire, there, set_answer, with_set, drop_answer, with_drop, clock_answer, with_clock};
 
 use super::{Ends, Graph};
+use arrayvec::ArrayVec;
 use refusals::Refusal;
 
 impl Graph {
@@ -11,19 +12,12 @@ impl Graph {
         ensures circuit { circuit result ≡ host_alone }
         ensures clock { result.clock ≡ None }
     {
+        let mut delays = ArrayVec::new();
+        delays.push(0);
         Graph {
-            delays: [0; 128],
-            gates: 1,
-            wires: [Ends {
-                live: false,
-                from: 0,
-                to: 0,
-                price: 0,
-                floor: 0,
-                ceiling: 0,
-            }; 512],
-            registers: [0; 512],
-            wired: 0,
+            delays,
+            wires: ArrayVec::new(),
+            registers: ArrayVec::new(),
             clock: None,
         }
     }
@@ -37,12 +31,11 @@ impl Graph {
         if delay > 65535 {
             return Err(Refusal::Range(0));
         }
-        if self.gates >= 128 {
+        if self.delays.is_full() {
             return Err(Refusal::Full(0));
         }
-        let at = self.gates;
-        self.delays[at] = delay as u16;
-        self.gates += 1;
+        let at = self.delays.len();
+        self.delays.push(delay as u16);
         Ok(at as u32)
     }
 
@@ -60,10 +53,10 @@ impl Graph {
         ensures next { circuit self.new ≡ after result (circuit self.old) (with_wire (circuit self.old) from to registers price floor ceiling) }
         ensures clock { self.new.clock ≡ self.old.clock }
     {
-        if from as usize >= self.gates {
+        if from as usize >= self.delays.len() {
             return Err(Refusal::NoGate(0));
         }
-        if to as usize >= self.gates {
+        if to as usize >= self.delays.len() {
             return Err(Refusal::NoGate(1));
         }
         if registers > 255 {
@@ -81,21 +74,31 @@ impl Graph {
         if floor > ceiling {
             return Err(Refusal::Reversed(4));
         }
-        if self.wired >= 512 {
+        if self.wires.is_full() {
             return Err(Refusal::WiresUsed);
         }
-        let at = self.wired;
-        self.wires[at] = Ends {
-            live: true,
+        let at = self.wires.len();
+        self.wires.push(Some(Ends {
             from: from as u8,
             to: to as u8,
             price: price as u8,
             floor: floor as u8,
             ceiling: ceiling as u8,
-        };
-        self.registers[at] = registers as u8;
-        self.wired += 1;
+        }));
+        self.registers.push(registers as u8);
         Ok(at as u32)
+    }
+
+    // The place of a wire that is there.
+    pub(super) fn place(&self, wire: u32) -> Result<usize, Refusal>
+        ensures answer { result ≡ there (circuit self.now) wire }
+        ensures within { IfOk result (λ at. (at ≡ wire) × (at < length self.now.wires.items)) }
+    {
+        let at = wire as usize;
+        match self.wires.get(at) {
+            Some(Some(_)) => Ok(at),
+            _ => Err(Refusal::NoWire(wire)),
+        }
     }
 
     // Gives a wire that number of registers.
@@ -104,14 +107,7 @@ impl Graph {
         ensures next { circuit self.new ≡ after result (circuit self.old) (with_set (circuit self.old) wire registers) }
         ensures clock { self.new.clock ≡ self.old.clock }
     {
-        let at = wire as usize;
-        if at >= self.wired {
-            return Err(Refusal::NoWire(wire));
-        }
-        let ends = self.wires[at];
-        if !ends.live {
-            return Err(Refusal::NoWire(wire));
-        }
+        let at = self.place(wire)?;
         if registers > 255 {
             return Err(Refusal::Range(1));
         }
@@ -125,16 +121,8 @@ impl Graph {
         ensures next { circuit self.new ≡ after result (circuit self.old) (with_drop (circuit self.old) wire) }
         ensures clock { self.new.clock ≡ self.old.clock }
     {
-        let at = wire as usize;
-        if at >= self.wired {
-            return Err(Refusal::NoWire(wire));
-        }
-        let mut ends = self.wires[at];
-        if !ends.live {
-            return Err(Refusal::NoWire(wire));
-        }
-        ends.live = false;
-        self.wires[at] = ends;
+        let at = self.place(wire)?;
+        self.wires[at] = None;
         Ok(())
     }
 

@@ -1,6 +1,6 @@
-use Rattle.std.proofs.Common.{sym}
-use Rattle.graph.proofs.Holds.{numbers_held}
+use Rattle.std.proofs.Common.{rules, sym, ◌∙◌}
+use Rattle.graph.proofs.Rows.{wires_length}
 use Rattle.graph.proofs.graph.Graph.numbers.Goals as goal
 
-pub returns : goal.returns
-returns c = record { count = sym (numbers_held c.args.self.now); few = c.args.self.now.short }
+pub returns-clause-count : goal.returns-clause-count
+returns-clause-count c = search (rules, wires_length)
