@@ -28,14 +28,11 @@ impl Graph {
         ensures next { circuit self.new ≡ after result (circuit self.old) (with_gate (circuit self.old) delay) }
         ensures clock { self.new.clock ≡ self.old.clock }
     {
-        if delay > 65535 {
-            return Err(Refusal::Range(0));
-        }
-        if self.delays.is_full() {
-            return Err(Refusal::Full(0));
-        }
+        let delay = u16::try_from(delay).map_err(|_| Refusal::Range(0))?;
         let at = self.delays.len();
-        self.delays.push(delay as u16);
+        self.delays
+            .try_push(delay)
+            .map_err(|_| Refusal::Full(0))?;
         Ok(at as u32)
     }
 
@@ -59,18 +56,12 @@ impl Graph {
         if to as usize >= self.delays.len() {
             return Err(Refusal::NoGate(1));
         }
-        if registers > 255 {
-            return Err(Refusal::Range(2));
-        }
+        let registers = u8::try_from(registers).map_err(|_| Refusal::Range(2))?;
         if price < 1 || price > 16 {
             return Err(Refusal::Range(3));
         }
-        if floor > 255 {
-            return Err(Refusal::Range(4));
-        }
-        if ceiling > 255 {
-            return Err(Refusal::Range(5));
-        }
+        let floor = u8::try_from(floor).map_err(|_| Refusal::Range(4))?;
+        let ceiling = u8::try_from(ceiling).map_err(|_| Refusal::Range(5))?;
         if floor > ceiling {
             return Err(Refusal::Reversed(4));
         }
@@ -82,10 +73,10 @@ impl Graph {
             from: from as u8,
             to: to as u8,
             price: price as u8,
-            floor: floor as u8,
-            ceiling: ceiling as u8,
+            floor,
+            ceiling,
         }));
-        self.registers.push(registers as u8);
+        self.registers.push(registers);
         Ok(at as u32)
     }
 
@@ -108,10 +99,8 @@ impl Graph {
         ensures clock { self.new.clock ≡ self.old.clock }
     {
         let at = self.place(wire)?;
-        if registers > 255 {
-            return Err(Refusal::Range(1));
-        }
-        self.registers[at] = registers as u8;
+        let registers = u8::try_from(registers).map_err(|_| Refusal::Range(1))?;
+        self.registers[at] = registers;
         Ok(())
     }
 

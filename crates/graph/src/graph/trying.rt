@@ -76,15 +76,13 @@ impl Graph {
         ensures same { self.new ≡ self.old }
     {
         let at = self.place(wire)?;
-        if registers > 255 {
-            return Err(Refusal::Range(1));
-        }
+        let registers = u8::try_from(registers).map_err(|_| Refusal::Range(1))?;
         trial_in(
             self.registers.as_mut_slice(),
             self.delays.as_slice(),
             self.wires.as_slice(),
             at,
-            registers as u8,
+            registers,
         )
     }
 }
