@@ -1,6 +1,7 @@
 -- The wires that two rows hold, and what a write to the rows does to them.
 use Rattle.std.proofs.Common.{◌≡◌, ℕ, zero, suc, ◌+◌, ◌<◌, ◌≤◌, cond, ltb, leb, List, [], ◌∷◌, ◌++◌, map, length, get_or, set, is_some, Some, None, Ok, Err, Option, Result, sym, refl, ap, ◌∙◌, inl, inr, arith}
 use Rattle.std.proofs.lemmas.Bool.{cond-true, cond-false, lt-leb, le-ltb, or_from, lt-ltb}
+use Rattle.std.proofs.lemmas.Grind.{common_steps}
 use Rattle.std.proofs.lemmas.List.{length-set}
 use Rattle.std.specs.List.{zip}
 use Rattle.arrayvec.specs.ArrayVec.{ArrayVec, with_items}
@@ -112,3 +113,6 @@ at_drop (x ∷ es) zero zero e h = absurd (cc)
 at_drop (x ∷ es) zero (suc j) e h = h
 at_drop (x ∷ es) (suc k) zero e h = h
 at_drop (x ∷ es) (suc k) (suc j) e h = at_drop es k j e h
+
+-- what the calls on wires need
+pub ruleset rows = (common_steps, wires_length, wires_push, wires_set, wires_drop, wires_there, written)

@@ -37,6 +37,7 @@ impl Graph {
     }
 
     // Adds a wire, and answers its number.
+    #[tactic(auto, using(crate::proofs::Rows::rows))]
     pub fn wire(
         &mut self,
         from: u32,
@@ -81,6 +82,7 @@ impl Graph {
     }
 
     // The place of a wire that is there.
+    #[tactic(auto, using(crate::proofs::Rows::rows))]
     pub(super) fn place(&self, wire: u32) -> Result<usize, Refusal>
         ensures answer { result ≡ there (circuit self.now) wire }
         ensures within { IfOk result (λ at. (at ≡ wire) × (at < length self.now.wires.items)) }
@@ -93,6 +95,7 @@ impl Graph {
     }
 
     // Gives a wire that number of registers.
+    #[tactic(auto, using(crate::proofs::Rows::rows))]
     pub fn set(&mut self, wire: u32, registers: u32) -> Result<(), Refusal>
         ensures answer { result ≡ set_answer (circuit self.old) wire registers }
         ensures next { circuit self.new ≡ after result (circuit self.old) (with_set (circuit self.old) wire registers) }
@@ -105,6 +108,7 @@ impl Graph {
     }
 
     // Drops a wire; its number is not given again.
+    #[tactic(auto, using(crate::proofs::Rows::rows))]
     pub fn drop_wire(&mut self, wire: u32) -> Result<(), Refusal>
         ensures answer { result ≡ drop_answer (circuit self.old) wire }
         ensures next { circuit self.new ≡ after result (circuit self.old) (with_drop (circuit self.old) wire) }

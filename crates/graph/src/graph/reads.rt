@@ -18,6 +18,7 @@ impl Graph {
     }
 
     // How many wire numbers are given, dropped ones counted.
+    #[tactic(auto, using(crate::proofs::Rows::rows))]
     pub fn numbers(&self) -> usize
         ensures count { result ≡ length (circuit self.now).wires }
         ensures few { result ≤ 512 }

@@ -21,5 +21,3 @@ invariant_of-self-clause-capped c =
     let s = c.args.self.now in
     subst Ceilings (sym (written s.wires c.deref_mut.result.now _ _ c.deref_mut.ensures.value)) (λ k e h. s.capped k e (at_drop s.wires.items _ k e h))
 
-pub returns-clause-next : goal.returns-clause-next
-returns-clause-next c = grind (arith, common_steps, written, wires_drop)
