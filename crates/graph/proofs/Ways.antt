@@ -1,5 +1,6 @@
 -- Wires forth and back: walks along them are what joins gates.
 use Rattle.std.proofs.Common.{◌≡◌, ℕ, zero, suc, ◌+◌, ◌<◌, ◌⊎◌, List, [], ◌∷◌, ◌++◌, length, get_or, take, Some, None, Option, sym, refl, ap, ◌∙◌, subst, inl, inr, arith}
+use Rattle.std.proofs.lemmas.Grind.{common_steps}
 use Rattle.std.proofs.lemmas.List.{take_more}
 use Rattle.model.specs.declared.Wire.{Wire}
 use Rattle.model.specs.Circuit.{Circuit, Link}
@@ -123,3 +124,6 @@ module _ (ds : List ℕ) (es : List (Option Ends)) (rs : List ℕ) (even : lengt
     none = λ j. elim (joined_walk 0 g j) [ inl e ↦ (let o = s.inner.0 in omega arith) | inr w ↦ s.none w ];
     first = λ h l. reaches h (λ o. s.before h o l);
   }
+
+-- what the loop over the wires needs
+pub ruleset doubling = (common_steps, both_more)

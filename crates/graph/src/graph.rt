@@ -15,11 +15,10 @@ mod tabling;
 mod trying;
 mod writing;
 
+use arrayvec::ArrayVec;
 pub use ends::Ends;
 pub use run::Run;
 pub use writing::written_again;
-
-use arrayvec::ArrayVec;
 
 // The gates and wires of a circuit, and its clock where it has one. Gate 0 is the host.
 #[derive(Drop)]

@@ -30,9 +30,7 @@ impl Graph {
     {
         let delay = u16::try_from(delay).map_err(|_| Refusal::Range(0))?;
         let at = self.delays.len();
-        self.delays
-            .try_push(delay)
-            .map_err(|_| Refusal::Full(0))?;
+        self.delays.try_push(delay).map_err(|_| Refusal::Full(0))?;
         Ok(at as u32)
     }
 

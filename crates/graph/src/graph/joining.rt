@@ -9,6 +9,7 @@ use refusals::Refusal;
 use timing::{Arc, unreached};
 
 // Each wire in both directions.
+#[tactic(auto, using(crate::proofs::Ways::doubling))]
 fn double(wires: &[Option<Ends>]) -> ArrayVec<Arc, 1024>
     requires { length wires.now ≤ 512 }
     ensures { result.items ≡ both_ways wires.now }

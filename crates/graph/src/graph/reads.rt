@@ -9,6 +9,7 @@ use model::Wire;
 
 impl Graph {
     // How many gates there are, the host counted; and the circuit is sound.
+    #[tactic(auto, using(crate::proofs::Holds::circuit_sound))]
     pub fn gates(&self) -> usize
         ensures count { result ≡ gates (circuit self.now) }
         ensures few { result ≤ 128 }
@@ -35,6 +36,7 @@ impl Graph {
     }
 
     // How many wires there are, dropped ones left out.
+    #[tactic(auto, using(crate::proofs::Holds::live_held))]
     pub fn wires(&self) -> usize
         ensures count { result ≡ length (live (circuit self.now)) }
         ensures few { result ≤ 512 }

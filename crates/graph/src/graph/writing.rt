@@ -20,6 +20,7 @@ impl Graph {
 }
 
 // What is written loads as the same graph, its wires numbered anew.
+#[tactic(auto, using(crate::proofs::Writing::again))]
 pub fn written_again()
     ensures { Again }
 {}

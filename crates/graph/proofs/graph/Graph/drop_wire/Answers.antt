@@ -20,4 +20,3 @@ pub invariant_of-self-clause-capped : goal.invariant_of-self-clause-capped
 invariant_of-self-clause-capped c =
     let s = c.args.self.now in
     subst Ceilings (sym (written s.wires c.deref_mut.result.now _ _ c.deref_mut.ensures.value)) (λ k e h. s.capped k e (at_drop s.wires.items _ k e h))
-

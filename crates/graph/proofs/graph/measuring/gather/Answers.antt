@@ -30,11 +30,11 @@ loop-wire-preserved c =
     let wire = turn.2 None in
     let held = turn.3 0 in
     let none : (e : Ends) → Free es rs n e → ⊥ = λ e f.
-        let lives = wire ∙ f.lives in
-        elim c.in_default.branch [
-          | in_default-via-in-None-1 w ↦ absurd (cc)
-          | in_default-via-in-Some-wire+else-held-eq0 w ↦ w.if-held-eq0.false (held ∙ f.empty)
-          | in_default-via-in-Some-wire+then-held-eq0+else-e-ne0 w ↦ let same : w.in-Some-wire.e ≡ e = cc in let a = ap (λ (x : Ends). x.from) same in let b = f.leaves in let d = w.if-e-ne0.false in omega arith
-          | in_default-via-in-Some-wire+then-held-eq0+then-e-ne0+else-e-ne0-2 w ↦ let same : w.in-Some-wire.e ≡ e = cc in let a = ap (λ (x : Ends). x.to) same in let b = f.enters in let d = w.if-e-ne0-2.false in omega arith
-        ] in
+    let lives = wire ∙ f.lives in
+    elim c.in_default.branch [
+      | in_default-via-in-None-1 w ↦ absurd (cc)
+      | in_default-via-in-Some-wire+else-held-eq0 w ↦ w.if-held-eq0.false (held ∙ f.empty)
+      | in_default-via-in-Some-wire+then-held-eq0+else-e-ne0 w ↦ let same : w.in-Some-wire.e ≡ e = cc in let a = ap (λ (x : Ends). x.from) same in let b = f.leaves in let d = w.if-e-ne0.false in omega arith
+      | in_default-via-in-Some-wire+then-held-eq0+then-e-ne0+else-e-ne0-2 w ↦ let same : w.in-Some-wire.e ≡ e = cc in let a = ap (λ (x : Ends). x.to) same in let b = f.enters in let d = w.if-e-ne0-2.false in omega arith
+    ] in
     ((tt, tt), tt, subst (λ (m : ℕ). Gathered es rs m c.loop-wire.arcs.items) (sym (length_push c.loop-wire.yielded (c.in-Some.wire, c.in-Some.held))) (lemma.passed_over es rs n c.loop-wire.arcs.items c.loop-wire.invariant.2 none))
