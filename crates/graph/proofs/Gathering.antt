@@ -1,39 +1,37 @@
 -- One wire more that is gathered, or passed over.
-use Rattle.std.proofs.Common.{◌≡◌, ℕ, ◌+◌, ◌<◌, List, length, get_or, set, sym, subst, arith, below_more}
-use Rattle.std.proofs.lemmas.List.{get_or-set_same, get_or-set_other}
+use Rattle.std.proofs.Common.{◌≡◌, ℕ, ◌+◌, ◌<◌, List, [], ◌∷◌, ◌++◌, length, get_or, Option, sym, subst, arith, below_more}
+use Rattle.std.proofs.lemmas.List.{get_or_push, get_or_append_left, length_push}
 use Rattle.timing.specs.declared.Arc.{Arc}
 use Rattle.timing.specs.Arcs as arcs
 use Rattle.graph.specs.declared.graph.ends.Ends.{Ends}
 use Rattle.graph.specs.Measures.{Free, Along, Gathered}
 
-module _ (es : List Ends) (rs : List ℕ) (i : ℕ) (found : List Arc) (r : ℕ) (old : Gathered es rs i found r) where
+module _ (es : List (Option Ends)) (rs : List ℕ) (i : ℕ) (found : List Arc) (old : Gathered es rs i found) where
   abbrev From : List Arc → ℕ → ℕ → Type 0
-  From as' m k = (j : ℕ) × (j < m) × Free es rs j × Along es j (get_or as' k arcs.nowhere)
+  From as' m k = (j : ℕ) × (e : Ends) × (j < m) × Free es rs j e × Along e (get_or as' k arcs.nowhere)
 
-  abbrev To : List Arc → ℕ → ℕ → Type 0
-  To as' n j = Free es rs j → (k : ℕ) × (k < n) × Along es j (get_or as' k arcs.nowhere)
+  abbrev To : List Arc → ℕ → Type 0
+  To as' j = (e : Ends) → Free es rs j e → (k : ℕ) × (k < length as') × Along e (get_or as' k arcs.nowhere)
 
-  pub passed_over : (Free es rs i → ⊥) → Gathered es rs (i + 1) found r
+  pub passed_over : ((e : Ends) → Free es rs i e → ⊥) → Gathered es rs (i + 1) found
   passed_over f = record {
     few = (let a = old.few in omega arith);
-    each = λ k h. let e = old.each k h in (e.0, (let a = e.1 in omega arith), e.2, e.3);
-    every = below_more (To found r) i old.every (λ x. absurd (f x));
+    each = λ k h. let e = old.each k h in (e.0, e.1, (let a = e.2 in omega arith), e.3, e.4);
+    every = λ j e h. below_more (To found) i (λ k l x. old.every k x l) (λ x g. absurd (f x g)) j h e;
   }
 
-  pub one_more : Free es rs i → (a : Arc) → Along es i a → r < length found → Gathered es rs (i + 1) (set found r a) (r + 1)
-  one_more free a along room =
-      let same : get_or (set found r a) r arcs.nowhere ≡ a = get_or-set_same found r a arcs.nowhere room in
-      let here : Along es i (get_or (set found r a) r arcs.nowhere) = subst (λ (b : Arc). Along es i b) (sym same) along in
+  pub one_more : (e : Ends) → Free es rs i e → (a : Arc) → Along e a → Gathered es rs (i + 1) (found ++ a ∷ [])
+  one_more e free a along =
+      let more = found ++ a ∷ [] in
+      let long : length more ≡ length found + 1 = length_push found a in
+      let here : Along e (get_or more (length found) arcs.nowhere) = subst (Along e) (sym (get_or_push found a arcs.nowhere (length found) (omega arith))) along in
+      let kept = λ (x : Ends) (k : ℕ) (h : k < length found) (b : Along x (get_or found k arcs.nowhere)). subst (Along x) (sym (get_or_append_left found (a ∷ []) arcs.nowhere k h)) b in
       record {
         few = (let b = old.few in omega arith);
-        each = below_more (From (set found r a) (i + 1)) r
-            (λ k h.
-            let e = old.each k h in
-            (e.0, (let b = e.1 in omega arith), e.2, subst (λ (b : Arc). Along es e.0 b) (sym (get_or-set_other found r k a arcs.nowhere (omega arith))) e.3))
-            (i, omega arith, free, here);
-        every = below_more (To (set found r a) (r + 1)) i
-            (λ j h f.
-            let e = old.every j h f in
-            (e.0, (let b = e.1 in omega arith), subst (λ (b : Arc). Along es j b) (sym (get_or-set_other found r e.0 a arcs.nowhere (let b = e.1 in omega arith))) e.2))
-            (λ f. (r, omega arith, here));
+        each = λ k h. below_more (From more (i + 1)) (length found)
+            (λ k h. let x = old.each k h in (x.0, x.1, (let b = x.2 in omega arith), x.3, kept x.1 k h x.4))
+            (i, e, omega arith, free, here) k (omega arith);
+        every = λ j x h. below_more (To more) i
+            (λ k l y f. let o = old.every k y l f in (o.0, (let b = o.1 in omega arith), kept y o.0 o.1 o.2))
+            (λ y f. let same : e ≡ y = cc in (length found, omega arith, subst (λ (x : Ends). Along x (get_or more (length found) arcs.nowhere)) same here)) j h x;
       }

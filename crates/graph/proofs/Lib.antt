@@ -3,6 +3,5 @@ pub mod Gathering
 pub mod Paths
 pub mod Holds
 pub mod Ways
-pub mod Whole
 pub mod Fills
 pub mod Writing

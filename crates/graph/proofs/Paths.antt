@@ -1,61 +1,21 @@
 -- Paths of weight 0 and register-free loops are the runs and walks along the gathered arcs.
-use Rattle.std.proofs.Common.{◌≡◌, ℕ, zero, suc, ◌+◌, ◌<◌, ◌≤◌, Bool, true, false, cond, ◌⊎◌, List, [], ◌∷◌, length, get_or, take, Some, None, Option, sym, refl, ap, ◌∙◌, subst, inl, inr, arith}
-use Rattle.std.proofs.lemmas.List.{length-take-le, get_or-take}
-use Rattle.std.proofs.lemmas.Bool.{cases_Bool}
+use Rattle.std.proofs.Common.{◌≡◌, ℕ, zero, suc, ◌+◌, ◌<◌, ◌⊎◌, List, length, get_or, Ok, Err, Option, Result, sym, refl, ap, ◌∙◌, subst, inl, inr, arith}
 use Rattle.model.specs.declared.Wire.{Wire}
-use Rattle.model.specs.Circuit.{Circuit, ◌∈◌, kept, delay_of, Inner, Link, Path, gate, step, weight, delay, FreeLoop, Visits, OnFreeLoop}
+use Rattle.model.specs.Circuit.{Circuit, delay_of, Inner, Link, Path, gate, step, weight, delay, FreeLoop, Visits, OnFreeLoop}
 use Rattle.model.proofs.Clock.{starts}
 use Rattle.timing.specs.declared.Arc.{Arc}
 use Rattle.timing.specs.Arcs as arcs
 use Rattle.timing.specs.Arcs.{Hop, Walk, hop, more, Run, alone, on, spent, Longest, NoLoop, Within}
 use Rattle.timing.specs.Marks as marks
 use Rattle.timing.proofs.Chase.{before}
+use Rattle.std.specs.Result.{MatchResult, IsErrAnd}
+use Rattle.refusals.specs.declared.Refusal.{Refusal}
 use Rattle.refusals.specs.declared.Refusal.TheVariants.{Loop}
 use Rattle.graph.specs.declared.graph.ends.Ends.{Ends}
-use Rattle.graph.specs.Tables.{nowhere, Inside}
-use Rattle.graph.specs.Reads.{wire_by, wires_of, circuit_of}
-use Rattle.graph.specs.Measures.{LowestOnLoop, Timed, Free, Gathered}
-
--- ---- the live wires of two rows
-kept_true : (b : Bool) (w : Wire) (ws : List (Option Wire)) → b ≡ true → kept (cond b (Some w) None ∷ ws) ≡ w ∷ kept ws
-kept_true b w ws e = ap (λ (x : Bool). kept (cond x (Some w) None ∷ ws)) e
-
-kept_false : (b : Bool) (w : Wire) (ws : List (Option Wire)) → b ≡ false → kept (cond b (Some w) None ∷ ws) ≡ kept ws
-kept_false b w ws e = ap (λ (x : Bool). kept (cond x (Some w) None ∷ ws)) e
-
-abbrev pub wire_at : List Ends → List ℕ → ℕ → Wire
-wire_at es rs j = wire_by (get_or es j nowhere) (get_or rs j 0)
-
-pub live_in : (es : List Ends) (rs : List ℕ) (j : ℕ) → length rs ≡ length es → j < length es → (get_or es j nowhere).live ≡ true → wire_at es rs j ∈ kept (wires_of es rs)
-live_in [] rs j e h t = absurd (omega arith)
-live_in (x ∷ es) [] j e h t = absurd (omega arith)
-live_in (x ∷ es) (r ∷ rs) zero e h t = subst (λ (ws : List Wire). wire_by x r ∈ ws) (sym (kept_true x.live (wire_by x r) (wires_of es rs) t)) (inl refl)
-live_in (x ∷ es) (r ∷ rs) (suc j) e h t =
-    let m = live_in es rs j (omega arith) (omega arith) t in
-    elim (cases_Bool x.live) [
-      | inl l ↦ subst (λ (ws : List Wire). wire_at es rs j ∈ ws) (sym (kept_true x.live (wire_by x r) (wires_of es rs) l)) (inr m)
-      | inr l ↦ subst (λ (ws : List Wire). wire_at es rs j ∈ ws) (sym (kept_false x.live (wire_by x r) (wires_of es rs) l)) m
-    ]
-
-pub record Found (es : List Ends) (rs : List ℕ) (w : Wire) : Type 0 where
-  pub at : ℕ
-  pub there : at < length es
-  pub lives : (get_or es at nowhere).live ≡ true
-  pub is : w ≡ wire_at es rs at
-
-pub in_live : (es : List Ends) (rs : List ℕ) (w : Wire) → w ∈ kept (wires_of es rs) → Found es rs w
-in_live [] rs w m = absurd m
-in_live (x ∷ es) [] w m = absurd m
-in_live (x ∷ es) (r ∷ rs) w m =
-    elim (cases_Bool x.live) [
-      | inl l ↦ elim (subst (λ (ws : List Wire). w ∈ ws) (kept_true x.live (wire_by x r) (wires_of es rs) l) m) [
-        | inl q ↦ record { at = 0; there = omega arith; lives = l; is = q }
-        | inr n ↦ let f = in_live es rs w n in record { at = suc f.at; there = (let a = f.there in omega arith); lives = f.lives; is = f.is }
-      ]
-      | inr l ↦
-          let f = in_live es rs w (subst (λ (ws : List Wire). w ∈ ws) (kept_false x.live (wire_by x r) (wires_of es rs) l) m) in
-          record { at = suc f.at; there = (let a = f.there in omega arith); lives = f.lives; is = f.is }
-    ]
+use Rattle.graph.specs.Tables.{Inside}
+use Rattle.graph.specs.Reads.{wire_by, circuit_of}
+use Rattle.graph.specs.Measures.{LowestOnLoop, Timed, MeasuredAs, Measured, Free, Gathered}
+use Rattle.graph.proofs.Rows.{live_in, in_live}
 
 -- ---- a path with one more gate at its end
 pub snoc : {c : Circuit} {u x v : ℕ} → Path c u x → Inner c v → Link c x v → Path c u v
@@ -87,16 +47,9 @@ follow : {arcs : List Arc} {u x v : ℕ} → Walk arcs u x → Walk arcs x v →
 follow w (hop h) = more w h
 follow w (more x h) = more (follow w x) h
 
-module _ (ds : List ℕ) (es : List Ends) (rs : List ℕ) (even : length rs ≡ length es) (inside : Inside es (length es) (length ds))
-    (found : List Arc) (r : ℕ) (g : Gathered es rs (length es) found r) (room : r ≤ length found) where
+module _ (ds : List ℕ) (es : List (Option Ends)) (rs : List ℕ) (even : length rs ≡ length es) (inside : Inside es (length ds)) (free : List Arc) (g : Gathered es rs (length es) free) where
   abbrev c : Circuit
   c = circuit_of ds es rs
-
-  abbrev free : List Arc
-  free = take r found
-
-  free_length : length free ≡ r
-  free_length = length-take-le r found room
 
   record Joined (u v : ℕ) : Type 0 where
     link : Link c u v
@@ -106,36 +59,26 @@ module _ (ds : List ℕ) (es : List Ends) (rs : List ℕ) (even : length rs ≡ 
 
   hop_link : (u v : ℕ) → Hop free u v → Joined u v
   hop_link u v h =
-      let lt : h.place < r = let a = free_length in let b = h.there in omega arith in
-      let e = g.each h.place lt in
-      let j = e.0 in
-      let same : get_or free h.place arcs.nowhere ≡ get_or found h.place arcs.nowhere = get_or-take r found h.place arcs.nowhere lt in
-      let a : (get_or es j nowhere).from ≡ u = sym e.3.leaves ∙ ap (λ (x : Arc). x.from) (sym same) ∙ h.leaves in
-      let b : (get_or es j nowhere).to ≡ v = sym e.3.enters ∙ ap (λ (x : Arc). x.to) (sym same) ∙ h.enters in
-      let i = inside j e.1 in
+      let (j, e, l, f, a) = g.each h.place h.there in
+      let i = inside j e f.lives in
+      let u_is : e.from ≡ u = sym a.leaves ∙ h.leaves in
+      let v_is : e.to ≡ v = sym a.enters ∙ h.enters in
       record {
-        link = record { wire = wire_at es rs j; lives = live_in es rs j even e.1 e.2.lives; leaves = a; enters = b };
-        empty = e.2.empty;
-        first = record { apart = (let x = e.2.leaves in omega arith); there = (let x = i.0 in omega arith) };
-        last = record { apart = (let x = e.2.enters in omega arith); there = (let x = i.1 in omega arith) };
+        link = record { wire = wire_by e (get_or rs j 0); lives = live_in es rs j e even f.lives; leaves = u_is; enters = v_is };
+        empty = f.empty;
+        first = record { apart = (let x = f.leaves in omega arith); there = (let x = i.0 in omega arith) };
+        last = record { apart = (let x = f.enters in omega arith); there = (let x = i.1 in omega arith) };
       }
 
   link_hop : (u v : ℕ) (l : Link c u v) → l.wire.registers ≡ 0 → Inner c u → Inner c v → Hop free u v
   link_hop u v l z iu iv =
       let f = in_live es rs l.wire l.lives in
-      let j = f.at in
-      let a : (get_or es j nowhere).from ≡ u = ap (λ (w : Wire). w.from) (sym f.is) ∙ l.leaves in
-      let b : (get_or es j nowhere).to ≡ v = ap (λ (w : Wire). w.to) (sym f.is) ∙ l.enters in
-      let empty : get_or rs j 0 ≡ 0 = ap (λ (w : Wire). w.registers) (sym f.is) ∙ z in
-      let fr : Free es rs j = record { lives = f.lives; empty = empty; leaves = (let x = iu.apart in omega arith); enters = (let x = iv.apart in omega arith) } in
-      let k = g.every j f.there fr in
-      let same : get_or free k.0 arcs.nowhere ≡ get_or found k.0 arcs.nowhere = get_or-take r found k.0 arcs.nowhere k.1 in
-      record {
-        place = k.0;
-        there = (let x = free_length in let y = k.1 in omega arith);
-        leaves = ap (λ (x : Arc). x.from) same ∙ k.2.leaves ∙ a;
-        enters = ap (λ (x : Arc). x.to) same ∙ k.2.enters ∙ b;
-      }
+      let a : f.ends.from ≡ u = ap (λ (w : Wire). w.from) (sym f.is) ∙ l.leaves in
+      let b : f.ends.to ≡ v = ap (λ (w : Wire). w.to) (sym f.is) ∙ l.enters in
+      let empty : get_or rs f.at 0 ≡ 0 = ap (λ (w : Wire). w.registers) (sym f.is) ∙ z in
+      let fr : Free es rs f.at f.ends = record { lives = f.lives; empty = empty; leaves = (let x = iu.apart in omega arith); enters = (let x = iv.apart in omega arith) } in
+      let k = g.every f.at f.ends f.there fr in
+      record { place = k.0; there = k.1; leaves = k.2.leaves ∙ a; enters = k.2.enters ∙ b }
 
   pub within : Within (length ds) free
   within k h =
@@ -243,7 +186,7 @@ module _ (ds : List ℕ) (es : List Ends) (rs : List ℕ) (even : length rs ≡ 
         ]
       ]
 
-  pub measured_ok : (p : ℕ) → NoLoop free × Longest ds free p → Timed c p
+  measured_ok : (p : ℕ) → NoLoop free × Longest ds free p → Timed c p
   measured_ok p m = record {
     free = λ f. m.0 f.start (loop_walk f);
     period = record {
@@ -252,10 +195,15 @@ module _ (ds : List ℕ) (es : List Ends) (rs : List ℕ) (even : length rs ≡ 
     };
   }
 
-  pub measured_err : (v : ℕ) → marks.Lowest free v → LowestOnLoop c (Loop v)
+  measured_err : (v : ℕ) → marks.Lowest free v → LowestOnLoop c (Loop v)
   measured_err v m = record {
     gate = v;
     says = refl;
     on = walk_loop v m.loop;
     first = λ h l o. m.first h l (round_walk h o);
   }
+
+  pub measured : (r : Result ℕ ℕ) (q : Result ℕ Refusal) → marks.Measured ds free r → MatchResult r (λ p. q ≡ Ok p) (λ v. IsErrAnd q (λ e. e ≡ Loop v)) → Measured c q
+  measured (Ok p) q m h = record { outcome = subst (MeasuredAs c) (sym h) (measured_ok p m) }
+  measured (Err v) (Err e) m h = record { outcome = subst (LowestOnLoop c) (sym h) (measured_err v m) }
+  measured (Err v) (Ok p) m h = absurd h

@@ -36,6 +36,10 @@ abbrev pub with_wire : Circuit → ℕ → ℕ → ℕ → ℕ → ℕ → ℕ �
 with_wire c from to registers price floor ceiling =
     record { delays = c.delays; wires = c.wires ++ Some (record { from = from; to = to; registers = registers; price = price; floor = floor; ceiling = ceiling }) ∷ [] }
 
+-- the place of a wire that is there
+abbrev pub there : Circuit → ℕ → Result ℕ Refusal
+there c wire = cond (is_some (slice_index_or c.wires wire None)) (Ok wire) (Err (NoWire wire))
+
 abbrev pub set_answer : Circuit → ℕ → ℕ → Result Unit Refusal
 set_answer c wire n =
     cond (is_some (slice_index_or c.wires wire None)) (cond (nat_lt 255 n) (Err (Range 1)) (Ok tt)) (Err (NoWire wire))

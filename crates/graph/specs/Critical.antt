@@ -1,5 +1,5 @@
 -- The slowest path without registers.
-use Rattle.std.specs.Prelude.{◌≤◌, take, Ok, Err, Result}
+use Rattle.std.specs.Prelude.{Ok, Err, Result}
 use Rattle.model.specs.Circuit.{Circuit}
 use Rattle.refusals.specs.declared.Refusal.{Refusal}
 use Rattle.paths.specs.Slowest.{Slowest}
@@ -7,7 +7,7 @@ use Rattle.graph.specs.declared.graph.run.Run.{Run}
 use Rattle.graph.specs.Measures.{LowestOnLoop}
 
 abbrev pub CriticalAs : Circuit → Result Run Refusal → Type 0
-CriticalAs c (Ok run) = (run.len ≤ 128) × Slowest c (take run.len run.gates)
+CriticalAs c (Ok run) = Slowest c run.gates.items
 CriticalAs c (Err e) = LowestOnLoop c e
 
 -- a path of weight 0 than which none of weight 0 is slower, or refusal 14

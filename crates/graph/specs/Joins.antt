@@ -1,5 +1,5 @@
 -- Gates that wires join, in either direction.
-use Rattle.std.specs.Prelude.{◌≡◌, ℕ, ◌<◌, cond, List, [], ◌∷◌, Ok, Err, Result}
+use Rattle.std.specs.Prelude.{◌≡◌, ℕ, ◌<◌, List, [], ◌∷◌, Some, None, Ok, Err, Option, Result}
 use Rattle.model.specs.Circuit.{Circuit, Link, gates}
 use Rattle.timing.specs.declared.Arc.{Arc}
 use Rattle.refusals.specs.declared.Refusal.{Refusal}
@@ -27,6 +27,7 @@ pub record Spans (c : Circuit) (r : Result Unit Refusal) : Type 0 where
   pub outcome : SpansAs c r
 
 -- the live wires, each forth and back
-abbrev pub both_ways : List Ends → List Arc
+abbrev pub both_ways : List (Option Ends) → List Arc
 both_ways [] = []
-both_ways (e ∷ es) = cond e.live (record { from = e.from; to = e.to } ∷ record { from = e.to; to = e.from } ∷ both_ways es) (both_ways es)
+both_ways (None ∷ es) = both_ways es
+both_ways (Some e ∷ es) = record { from = e.from; to = e.to } ∷ record { from = e.to; to = e.from } ∷ both_ways es

@@ -1,4 +1,4 @@
-ghost use Rattle.std.specs.Prelude.{◌≡◌, ◌<◌, ◌≤◌, length, slice_index};
+ghost use Rattle.std.specs.Prelude.{◌≡◌, ◌<◌, length, slice_index};
 ghost use Rattle.graph.specs.Tables.{Inside, Ceilings, Ticks};
 
 mod calls;
@@ -9,11 +9,13 @@ mod listing;
 mod loading;
 mod measuring;
 mod reads;
+mod rows;
 mod run;
 mod tabling;
 mod trying;
 mod writing;
 
+use arrayvec::ArrayVec;
 pub use ends::Ends;
 pub use run::Run;
 pub use writing::written_again;
@@ -21,18 +23,14 @@ pub use writing::written_again;
 // The gates and wires of a circuit, and its clock where it has one. Gate 0 is the host.
 #[derive(Drop)]
 pub struct Graph {
-    delays: [u16; 128],
-    gates: usize,
-    wires: [Ends; 512],
-    registers: [u8; 512],
-    wired: usize,
+    delays: ArrayVec<u16, 128>,
+    wires: ArrayVec<Option<Ends>, 512>,
+    registers: ArrayVec<u8, 512>,
     clock: Option<u32>,
-    ghost some: { 0 < gates },
-    ghost small: { gates ≤ 128 },
-    ghost short: { wired ≤ 512 },
-    ghost idle: { slice_index delays 0 ≡ 0 },
-    ghost long: { (length delays ≡ 128) × (length wires ≡ 512) × (length registers ≡ 512) },
-    ghost inside: { Inside wires wired gates },
-    ghost capped: { Ceilings wires wired },
+    ghost some: { 0 < length delays.items },
+    ghost idle: { slice_index delays.items 0 ≡ 0 },
+    ghost paired: { length registers.items ≡ length wires.items },
+    ghost inside: { Inside wires.items (length delays.items) },
+    ghost capped: { Ceilings wires.items },
     ghost ticks: { Ticks clock },
 }

@@ -1,8 +1,9 @@
-ghost use Rattle.std.specs.Prelude.{◌≡◌, None};
+ghost use Rattle.std.specs.Prelude.{◌≡◌, ◌<◌, length, None, IfOk};
 ghost use Rattle.graph.specs.Reads.{circuit};
-ghost use Rattle.graph.specs.Calls.{host_alone, after, gate_answer, with_gate, wire_answer, with_wire, set_answer, with_set, drop_answer, with_drop, clock_answer, with_clock};
+ghost use Rattle.graph.specs.Calls.{host_alone, after, gate_answer, with_gate, wire_answer, with_wire, there, set_answer, with_set, drop_answer, with_drop, clock_answer, with_clock};
 
 use super::{Ends, Graph};
+use arrayvec::ArrayVec;
 use refusals::Refusal;
 
 impl Graph {
@@ -11,19 +12,12 @@ impl Graph {
         ensures circuit { circuit result ≡ host_alone }
         ensures clock { result.clock ≡ None }
     {
+        let mut delays = ArrayVec::new();
+        delays.push(0);
         Graph {
-            delays: [0; 128],
-            gates: 1,
-            wires: [Ends {
-                live: false,
-                from: 0,
-                to: 0,
-                price: 0,
-                floor: 0,
-                ceiling: 0,
-            }; 512],
-            registers: [0; 512],
-            wired: 0,
+            delays,
+            wires: ArrayVec::new(),
+            registers: ArrayVec::new(),
             clock: None,
         }
     }
@@ -34,19 +28,14 @@ impl Graph {
         ensures next { circuit self.new ≡ after result (circuit self.old) (with_gate (circuit self.old) delay) }
         ensures clock { self.new.clock ≡ self.old.clock }
     {
-        if delay > 65535 {
-            return Err(Refusal::Range(0));
-        }
-        if self.gates >= 128 {
-            return Err(Refusal::Full(0));
-        }
-        let at = self.gates;
-        self.delays[at] = delay as u16;
-        self.gates += 1;
+        let delay = u16::try_from(delay).map_err(|_| Refusal::Range(0))?;
+        let at = self.delays.len();
+        self.delays.try_push(delay).map_err(|_| Refusal::Full(0))?;
         Ok(at as u32)
     }
 
     // Adds a wire, and answers its number.
+    #[tactic(auto, using(crate::proofs::Rows::rows))]
     pub fn wire(
         &mut self,
         from: u32,
@@ -60,81 +49,71 @@ impl Graph {
         ensures next { circuit self.new ≡ after result (circuit self.old) (with_wire (circuit self.old) from to registers price floor ceiling) }
         ensures clock { self.new.clock ≡ self.old.clock }
     {
-        if from as usize >= self.gates {
+        if from as usize >= self.delays.len() {
             return Err(Refusal::NoGate(0));
         }
-        if to as usize >= self.gates {
+        if to as usize >= self.delays.len() {
             return Err(Refusal::NoGate(1));
         }
-        if registers > 255 {
-            return Err(Refusal::Range(2));
-        }
+        let registers = u8::try_from(registers).map_err(|_| Refusal::Range(2))?;
         if price < 1 || price > 16 {
             return Err(Refusal::Range(3));
         }
-        if floor > 255 {
-            return Err(Refusal::Range(4));
-        }
-        if ceiling > 255 {
-            return Err(Refusal::Range(5));
-        }
+        let floor = u8::try_from(floor).map_err(|_| Refusal::Range(4))?;
+        let ceiling = u8::try_from(ceiling).map_err(|_| Refusal::Range(5))?;
         if floor > ceiling {
             return Err(Refusal::Reversed(4));
         }
-        if self.wired >= 512 {
+        if self.wires.is_full() {
             return Err(Refusal::WiresUsed);
         }
-        let at = self.wired;
-        self.wires[at] = Ends {
-            live: true,
+        let at = self.wires.len();
+        self.wires.push(Some(Ends {
             from: from as u8,
             to: to as u8,
             price: price as u8,
-            floor: floor as u8,
-            ceiling: ceiling as u8,
-        };
-        self.registers[at] = registers as u8;
-        self.wired += 1;
+            floor,
+            ceiling,
+        }));
+        self.registers.push(registers);
         Ok(at as u32)
     }
 
+    // The place of a wire that is there.
+    #[tactic(auto, using(crate::proofs::Rows::rows))]
+    pub(super) fn place(&self, wire: u32) -> Result<usize, Refusal>
+        ensures answer { result ≡ there (circuit self.now) wire }
+        ensures within { IfOk result (λ at. (at ≡ wire) × (at < length self.now.wires.items)) }
+    {
+        let at = wire as usize;
+        match self.wires.get(at) {
+            Some(Some(_)) => Ok(at),
+            _ => Err(Refusal::NoWire(wire)),
+        }
+    }
+
     // Gives a wire that number of registers.
+    #[tactic(auto, using(crate::proofs::Rows::rows))]
     pub fn set(&mut self, wire: u32, registers: u32) -> Result<(), Refusal>
         ensures answer { result ≡ set_answer (circuit self.old) wire registers }
         ensures next { circuit self.new ≡ after result (circuit self.old) (with_set (circuit self.old) wire registers) }
         ensures clock { self.new.clock ≡ self.old.clock }
     {
-        let at = wire as usize;
-        if at >= self.wired {
-            return Err(Refusal::NoWire(wire));
-        }
-        let ends = self.wires[at];
-        if !ends.live {
-            return Err(Refusal::NoWire(wire));
-        }
-        if registers > 255 {
-            return Err(Refusal::Range(1));
-        }
-        self.registers[at] = registers as u8;
+        let at = self.place(wire)?;
+        let registers = u8::try_from(registers).map_err(|_| Refusal::Range(1))?;
+        self.registers[at] = registers;
         Ok(())
     }
 
     // Drops a wire; its number is not given again.
+    #[tactic(auto, using(crate::proofs::Rows::rows))]
     pub fn drop_wire(&mut self, wire: u32) -> Result<(), Refusal>
         ensures answer { result ≡ drop_answer (circuit self.old) wire }
         ensures next { circuit self.new ≡ after result (circuit self.old) (with_drop (circuit self.old) wire) }
         ensures clock { self.new.clock ≡ self.old.clock }
     {
-        let at = wire as usize;
-        if at >= self.wired {
-            return Err(Refusal::NoWire(wire));
-        }
-        let mut ends = self.wires[at];
-        if !ends.live {
-            return Err(Refusal::NoWire(wire));
-        }
-        ends.live = false;
-        self.wires[at] = ends;
+        let at = self.place(wire)?;
+        self.wires[at] = None;
         Ok(())
     }
 

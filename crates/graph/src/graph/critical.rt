@@ -2,8 +2,8 @@ ghost use Rattle.graph.specs.Reads.{circuit};
 ghost use Rattle.graph.specs.Critical.{Critical};
 
 use super::Graph;
-use super::listing::listed;
 use super::run::Run;
+use arrayvec::ArrayVec;
 use paths::slowest;
 use refusals::Refusal;
 
@@ -12,12 +12,12 @@ impl Graph {
     pub fn critical(&self) -> Result<Run, Refusal>
         ensures { Critical (circuit self.now) result }
     {
-        if let Err(refusal) = self.measure() {
-            return Err(refusal);
-        }
-        let list = listed(&self.wires[..self.wired], &self.registers[..self.wired]);
+        self.measure()?;
+        let wires = self.wiring();
         let mut gates = [0; 128];
-        let len = slowest(&self.delays[..self.gates], &list[..self.wired], &mut gates);
-        Ok(Run { gates, len })
+        let len = slowest(self.delays.as_slice(), wires.as_slice(), &mut gates);
+        Ok(Run {
+            gates: ArrayVec::try_from(&gates[..len]).unwrap(),
+        })
     }
 }

@@ -1,52 +1,47 @@
-ghost use Rattle.std.specs.Prelude.{◌≡◌, ℕ, ◌+◌, ◌*◌, ◌<◌, ◌≤◌, length, take};
-ghost use Rattle.graph.specs.Tables.{Inside};
+ghost use Rattle.std.specs.Prelude.{◌≡◌, ◌≤◌, length};
 ghost use Rattle.graph.specs.Reads.{circuit, circuit_of};
 ghost use Rattle.graph.specs.Joins.{both_ways, Spans};
-ghost use Rattle.timing.specs.Marks.{Spanned};
 
+use super::rows::Rows;
 use super::{Ends, Graph};
+use arrayvec::ArrayVec;
 use refusals::Refusal;
 use timing::{Arc, unreached};
 
-// Writes each wire in both directions; how many arcs there are.
-fn double(wires: &[Ends], arcs: &mut [Arc]) -> usize
-    requires { 2 * length wires.now ≤ length arcs.old }
-    ensures few { result ≤ 2 * length wires.now }
-    ensures found { take result arcs.new ≡ both_ways wires.now }
+// Each wire in both directions.
+#[tactic(auto, using(crate::proofs::Ways::doubling))]
+fn double(wires: &[Option<Ends>]) -> ArrayVec<Arc, 1024>
+    requires { length wires.now ≤ 512 }
+    ensures { result.items ≡ both_ways wires.now }
 {
-    let mut n = 0;
-    for e in wires {
-        if e.live {
-            arcs[n] = Arc {
+    let mut arcs = ArrayVec::new();
+    for wire in wires {
+        if let Some(e) = wire {
+            arcs.push(Arc {
                 from: e.from,
                 to: e.to,
-            };
-            arcs[n + 1] = Arc {
+            });
+            arcs.push(Arc {
                 from: e.to,
                 to: e.from,
-            };
-            n += 2;
+            });
         }
     }
-    n
+    arcs
 }
 
-fn unmarked() -> [bool; 128]
-    ensures { length result ≡ 128 }
-{
-    [false; 128]
-}
-
-// Whether wires join every gate to the host.
-fn spans(gates: usize, wires: &[Ends]) -> Option<u32>
-    requires sizes { (0 < gates) × (gates ≤ 128) × (length wires.now ≤ 512) }
-    requires inside { Inside wires.now (length wires.now) gates }
-    ensures { Spanned (both_ways wires.now) gates result }
-{
-    let mut arcs = [Arc { from: 0, to: 0 }; 1024];
-    let n = double(wires, &mut arcs);
-    let mut marks = unmarked();
-    unreached(&arcs[..n], &mut marks[..gates])
+impl Rows<'_> {
+    // Refused with the lowest gate that wires do not join to the host.
+    fn joined(&self) -> Result<(), Refusal>
+        ensures { Spans (circuit_of self.now.delays.now self.now.wires.now self.now.registers.now) result }
+    {
+        let arcs = double(self.wires);
+        let mut marks = [false; 128];
+        match unreached(arcs.as_slice(), &mut marks[..self.delays.len()]) {
+            None => Ok(()),
+            Some(g) => Err(Refusal::Apart(g)),
+        }
+    }
 }
 
 impl Graph {
@@ -54,9 +49,6 @@ impl Graph {
     pub fn joined(&self) -> Result<(), Refusal>
         ensures { Spans (circuit self.now) result }
     {
-        match spans(self.gates, &self.wires[..self.wired]) {
-            None => Ok(()),
-            Some(g) => Err(Refusal::Apart(g)),
-        }
+        self.rows().joined()
     }
 }

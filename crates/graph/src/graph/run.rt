@@ -1,15 +1,15 @@
+use arrayvec::ArrayVec;
 use std::fmt;
 
-// The gates of a path in their order: the first `len` of them.
+// The gates of a path in their order.
 #[derive(Drop)]
 pub struct Run {
-    pub gates: [u8; 128],
-    pub len: usize,
+    pub gates: ArrayVec<u8, 128>,
 }
 
 impl fmt::Display for Run {
     fn fmt<W: fmt::Write>(&self, f: &mut fmt::Formatter<W>) -> fmt::Result {
-        for gate in self.gates.iter().take(self.len) {
+        for gate in &self.gates {
             write!(f, " {gate}")?;
         }
         Ok(())

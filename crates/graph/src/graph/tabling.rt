@@ -2,7 +2,6 @@ ghost use Rattle.graph.specs.Reads.{circuit};
 ghost use Rattle.graph.specs.Tabling.{Tables};
 
 use super::Graph;
-use super::listing::listed;
 use paths::fill_tables;
 use refusals::Refusal;
 
@@ -11,18 +10,16 @@ impl Graph {
     pub fn paths(&self, least: &mut [u32], most: &mut [u32]) -> Result<(), Refusal>
         ensures { Tables (circuit self.now) least.old most.old result least.new most.new }
     {
-        let cells = self.gates * self.gates;
+        let cells = self.gates() * self.gates();
         if least.len() < cells {
             return Err(Refusal::Memory(0));
         }
         if most.len() < cells {
             return Err(Refusal::Memory(1));
         }
-        if let Err(refusal) = self.measure() {
-            return Err(refusal);
-        }
-        let list = listed(&self.wires[..self.wired], &self.registers[..self.wired]);
-        fill_tables(&self.delays[..self.gates], &list[..self.wired], least, most);
+        self.measure()?;
+        let wires = self.wiring();
+        fill_tables(self.delays.as_slice(), wires.as_slice(), least, most);
         Ok(())
     }
 }

@@ -1,23 +1,23 @@
-ghost use Rattle.std.specs.Prelude.{◌≡◌, ℕ, ◌<◌, ◌≤◌, length, take, slice_set};
+ghost use Rattle.std.specs.Prelude.{◌≡◌, ◌<◌, ◌≤◌, length, slice_set};
 ghost use Rattle.graph.specs.Tables.{Inside};
 ghost use Rattle.graph.specs.Reads.{circuit, circuit_of};
 ghost use Rattle.graph.specs.Measures.{Measured};
 ghost use Rattle.graph.specs.Tries.{Tried};
 
-use super::measuring::measure_rows;
+use super::rows::Rows;
 use super::{Ends, Graph};
 use refusals::Refusal;
 
 // A wire that has another number of registers until this is dropped.
 struct Held<'a> {
-    registers: &'a mut [u8; 512],
+    registers: &'a mut [u8],
     wire: usize,
     old: u8,
 }
 
 impl Drop for Held<'_> {
     fn drop(self)
-        requires { self.wire < 512 }
+        requires { self.wire < length self.registers.now }
         ensures { self.exit.0.now ≡ slice_set self.entry.registers.now self.entry.wire self.entry.old }
     {
         self.registers[self.wire] = self.old;
@@ -29,34 +29,34 @@ impl Drop for Held<'_> {
     }
 }
 
-// The period of the circuit that the tables hold.
-fn measure_tables(
-    delays: &[u16; 128],
-    gates: usize,
-    wires: &[Ends; 512],
-    registers: &[u8; 512],
-    wired: usize,
-) -> Result<u32, Refusal>
-    requires sizes { (0 < gates) × (gates ≤ 128) × (wired ≤ 512) }
-    requires inside { Inside wires.now wired gates }
-    ensures { Measured (circuit_of (take gates delays.now) (take wired wires.now) (take wired registers.now)) result }
-{
-    measure_rows(&delays[..gates], &wires[..wired], &registers[..wired])
+impl Held<'_> {
+    fn measure(&self, delays: &[u16], wires: &[Option<Ends>]) -> Result<u32, Refusal>
+        requires sizes { (0 < length delays.now) × (length delays.now ≤ 128) × (length wires.now ≤ 512) }
+        requires paired { length self.now.registers.now ≡ length wires.now }
+        requires inside { Inside wires.now (length delays.now) }
+        ensures { Measured (circuit_of delays.now wires.now self.now.registers.now) result }
+    {
+        Rows {
+            delays,
+            wires,
+            registers: &*self.registers,
+        }
+        .measure()
+    }
 }
 
 // The same with `n` at `wire`; the registers are as they were however it ends.
 fn trial_in(
-    registers: &mut [u8; 512],
-    delays: &[u16; 128],
-    gates: usize,
-    wires: &[Ends; 512],
-    wired: usize,
+    registers: &mut [u8],
+    delays: &[u16],
+    wires: &[Option<Ends>],
     wire: usize,
     n: u8,
 ) -> Result<u32, Refusal>
-    requires sizes { (0 < gates) × (gates ≤ 128) × (wired ≤ 512) × (wire < wired) }
-    requires inside { Inside wires.now wired gates }
-    ensures answer { Measured (circuit_of (take gates delays.now) (take wired wires.now) (take wired (slice_set registers.old wire n))) result }
+    requires sizes { (0 < length delays.now) × (length delays.now ≤ 128) × (length wires.now ≤ 512) }
+    requires paired { (length registers.old ≡ length wires.now) × (wire < length wires.now) }
+    requires inside { Inside wires.now (length delays.now) }
+    ensures answer { Measured (circuit_of delays.now wires.now (slice_set registers.old wire n)) result }
     ensures same { registers.new ≡ registers.old }
 {
     let old = registers[wire];
@@ -66,7 +66,7 @@ fn trial_in(
         wire,
         old,
     };
-    measure_tables(delays, gates, wires, &*held.registers, wired)
+    held.measure(delays, wires)
 }
 
 impl Graph {
@@ -75,27 +75,14 @@ impl Graph {
         ensures answer { Tried (circuit self.old) wire registers result }
         ensures same { self.new ≡ self.old }
     {
-        let at = wire as usize;
-        if at >= self.wired {
-            return Err(Refusal::NoWire(wire));
-        }
-        let ends = self.wires[at];
-        if !ends.live {
-            return Err(Refusal::NoWire(wire));
-        }
-        if registers > 255 {
-            return Err(Refusal::Range(1));
-        }
-        let gates = self.gates;
-        let wired = self.wired;
+        let at = self.place(wire)?;
+        let registers = u8::try_from(registers).map_err(|_| Refusal::Range(1))?;
         trial_in(
-            &mut self.registers,
-            &self.delays,
-            gates,
-            &self.wires,
-            wired,
+            self.registers.as_mut_slice(),
+            self.delays.as_slice(),
+            self.wires.as_slice(),
             at,
-            registers as u8,
+            registers,
         )
     }
 }

@@ -1,35 +1,22 @@
-use Rattle.std.proofs.Common.{ℕ, ◌≤◌, cond, List, length, is_some, Ok, Err, Option, Result, sym, refl, ap, arith}
-use Rattle.std.proofs.lemmas.Bool.{not-true, not-false}
-use Rattle.model.specs.declared.Wire.{Wire}
-use Rattle.refusals.specs.declared.Refusal.{Refusal}
-use Rattle.refusals.specs.declared.Refusal.TheVariants.{NoWire}
-use Rattle.graph.specs.Reads.{circuit}
-use Rattle.graph.proofs.Rows.{row_past, row_live, row_dropped, row_drop}
+use Rattle.std.proofs.Common.{List, length, Option, sym, ap, ◌∙◌, subst, arith}
+use Rattle.std.proofs.lemmas.Grind.{common_steps}
+use Rattle.std.proofs.lemmas.List.{length-set}
+use Rattle.graph.specs.declared.graph.ends.Ends.{Ends}
+use Rattle.graph.specs.Tables.{Inside, Ceilings}
+use Rattle.graph.proofs.Rows.{written, wires_drop, at_drop}
 use Rattle.graph.proofs.graph.Graph.drop_wire.Goals as goal
 
-abbrev answers : ℕ → Option Wire → Result Unit Refusal
-answers wire o = cond (is_some o) (Ok tt) (Err (NoWire wire))
-
-pub returns-then-at-self : goal.returns-then-at-self
-returns-then-at-self c =
+pub invariant_of-self-clause-paired : goal.invariant_of-self-clause-paired
+invariant_of-self-clause-paired c =
     let s = c.args.self.now in
-    record { answer = sym (ap (answers c.args.wire) (row_past s.wires s.registers s.wired c.args.wire c.if-at-self.true)); next = refl; clock = refl }
+    s.paired ∙ sym (ap length (written s.wires c.deref_mut.result.now _ _ c.deref_mut.ensures.value) ∙ length-set s.wires.items _ _)
 
-pub returns-then-not-ends : goal.returns-then-not-ends
-returns-then-not-ends c =
+pub invariant_of-self-clause-inside : goal.invariant_of-self-clause-inside
+invariant_of-self-clause-inside c =
     let s = c.args.self.now in
-    let h : s.wired ≤ length s.wires = omega arith in
-    let l : s.wired ≤ length s.registers = omega arith in
-    record { answer = sym (ap (answers c.args.wire) (row_dropped s.wires s.registers s.wired h l c.args.wire c.if-at-self.false (not-true _ c.if-not-ends.true))); next = refl; clock = refl }
+    subst (λ (es : List (Option Ends)). Inside es (length s.delays.items)) (sym (written s.wires c.deref_mut.result.now _ _ c.deref_mut.ensures.value)) (λ k e h. s.inside k e (at_drop s.wires.items _ k e h))
 
-pub returns : goal.returns
-returns c =
+pub invariant_of-self-clause-capped : goal.invariant_of-self-clause-capped
+invariant_of-self-clause-capped c =
     let s = c.args.self.now in
-    let h : s.wired ≤ length s.wires = omega arith in
-    let l : s.wired ≤ length s.registers = omega arith in
-    record {
-      answer = sym (ap (answers c.args.wire) (row_live s.wires s.registers s.wired h l c.args.wire c.if-at-self.false (not-false _ c.if-not-ends.false)));
-      clock = refl;
-      next = ap (λ (ws : List (Option Wire)). record { delays = (circuit s).delays; wires = ws })
-          (row_drop s.wires s.registers s.wired h l c.args.wire _ c.if-at-self.false refl);
-    }
+    subst Ceilings (sym (written s.wires c.deref_mut.result.now _ _ c.deref_mut.ensures.value)) (λ k e h. s.capped k e (at_drop s.wires.items _ k e h))

@@ -1,12 +1,6 @@
-use Rattle.std.proofs.Common.{ℕ, take, sym, ap, ◌∙◌}
-use Rattle.graph.proofs.Holds.{numbers_held, wires_held, wires_ranged}
+use Rattle.std.proofs.Common.{ℕ, ◌<◌, List, get_or, subst}
+use Rattle.graph.proofs.Holds.{wires_ranged}
 use Rattle.graph.proofs.graph.Graph.wiring.Goals as goal
 
-pub returns : goal.returns
-returns c =
-    let g = c.args.self.now in
-    record {
-      long = c.listed.ensures.long;
-      wires = ap (λ (n : ℕ). take n c.listed.result) (numbers_held g ∙ sym (wires_held g)) ∙ c.listed.ensures.wires;
-      ranged = wires_ranged g c.listed.ensures.bytes;
-    }
+pub returns-clause-ranged : goal.returns-clause-ranged
+returns-clause-ranged c = wires_ranged c.args.self.now (subst (λ (rs : List ℕ). (k : ℕ) → get_or rs k 0 < 256) c.as_slice-2.ensures.value c.listed.ensures.bytes)

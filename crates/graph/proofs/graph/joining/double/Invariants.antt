@@ -1,6 +1,7 @@
-use Rattle.std.proofs.Common.{◌≡◌, ◌*◌, ◌≤◌, take}
+use Rattle.std.proofs.Common.{◌≡◌, ◌*◌, ◌≤◌, length, take}
 use Rattle.graph.specs.Joins.{both_ways}
 use Rattle.graph.proofs.graph.joining.double.Given as goal
 
-abbrev pub invariant-loop-e : goal.invariant-loop-e
-invariant-loop-e l = (l.n ≤ 2 * l.e-index) × (take l.n l.arcs ≡ both_ways (take l.e-index l.wires))
+abbrev pub invariant-loop-wire : goal.invariant-loop-wire
+invariant-loop-wire l =
+    record { few : length l.arcs.items ≤ 2 * l.wire-index; found : l.arcs.items ≡ both_ways (take l.wire-index l.wires) }

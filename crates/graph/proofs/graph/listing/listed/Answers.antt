@@ -1,38 +1,18 @@
-use Rattle.std.proofs.Common.{◌≡◌, ℕ, ◌<◌, ◌≤◌, List, [], ◌∷◌, ◌++◌, length, take, Option, sym, ap, ◌∙◌, arith}
-use Rattle.std.proofs.lemmas.List.{length-set, take_more_set, take_all}
-use Rattle.model.specs.declared.Wire.{Wire}
+use Rattle.std.proofs.Common.{ℕ, map, ap, ◌∙◌, Option, arith}
+use Rattle.std.proofs.lemmas.Iterator.{YieldsList-from_slice, YieldsList-from_zip}
+use Rattle.std.proofs.lemmas.Iterator.Consumers.{YieldsList-end}
 use Rattle.graph.specs.declared.graph.ends.Ends.{Ends}
-use Rattle.graph.specs.Reads.{wires_of}
-use Rattle.graph.proofs.Rows.{wires_more}
+use Rattle.graph.specs.Reads.{wire_of}
+use Rattle.graph.proofs.Rows.{wires_zip}
 use Rattle.graph.proofs.graph.listing.listed.Goals as goal
 
-pub loop-i-preserved : goal.loop-i-preserved
-loop-i-preserved c =
-    let i = c.loop-i.i in
-    let list = c.loop-i.list in
+pub returns-clause-wires : goal.returns-clause-wires
+returns-clause-wires c =
     let es = c.args.slots.now in
     let rs = c.args.registers.now in
-    let at = c.loop-i-test.true in
-    let room : i < length list = let a = c.loop-i.invariant.0 in let b = c.requires.1 in omega arith in (
-      length-set list i c.wire_in.result ∙ c.loop-i.invariant.0,
-      take_more_set list i c.wire_in.result room
-          ∙ ap (λ (xs : List (Option Wire)). xs ++ c.wire_in.result ∷ []) c.loop-i.invariant.1
-          ∙ ap (λ (o : Option Wire). wires_of (take i es) (take i rs) ++ o ∷ []) c.wire_in.ensures
-          ∙ sym (wires_more es rs i c.requires.0 at),
-    )
+    let road = YieldsList-from_zip (YieldsList-from_slice es (cc)) (YieldsList-from_slice rs (cc)) in
+    let all = YieldsList-end road c.loop-slot.yielded c.loop-slot.slot-iterator c.loop-slot.yielded_by c.next.result c.next.new.self c.in-None.is c.next.ensures.steps in
+    c.loop-slot.invariant.2 ∙ ap (map (λ (p : Option Ends × ℕ). wire_of p.0 p.1)) all.0 ∙ wires_zip es rs
 
-pub returns : goal.returns
-returns c =
-    let i = c.loop-i.i in
-    let es = c.args.slots.now in
-    let rs = c.args.registers.now in
-    let e : i ≡ length es = let a = c.loop-i-test.false in let b = c.loop-i.auto.i-end in omega arith in
-    let f : length rs ≤ i = let a = c.requires.0 in omega arith in
-    record {
-      long = c.loop-i.invariant.0;
-      wires = ap (λ (n : ℕ). take n c.loop-i.list) (sym e)
-          ∙ c.loop-i.invariant.1
-          ∙ ap (λ (xs : List Ends). wires_of xs (take i rs)) (take_all i es c.loop-i-test.false)
-          ∙ ap (λ (ys : List ℕ). wires_of es ys) (take_all i rs f);
-      bytes = λ k. let t = c.type_inv.registers k in omega arith;
-    }
+pub returns-clause-bytes : goal.returns-clause-bytes
+returns-clause-bytes c = λ k. let t = c.type_inv.registers k in omega arith
