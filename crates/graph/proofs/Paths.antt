@@ -6,6 +6,7 @@ use Rattle.model.proofs.Clock.{starts}
 use Rattle.timing.specs.declared.Arc.{Arc}
 use Rattle.timing.specs.Arcs as arcs
 use Rattle.timing.specs.Arcs.{Hop, Walk, hop, more, Run, alone, on, spent, Longest, NoLoop, Within}
+use Rattle.timing.specs.declared.OnLoop.{OnLoop}
 use Rattle.timing.specs.Marks as marks
 use Rattle.timing.proofs.Chase.{before}
 use Rattle.std.specs.Result.{MatchResult, IsErrAnd}
@@ -203,7 +204,7 @@ module _ (ds : List ℕ) (es : List (Option Ends)) (rs : List ℕ) (even : lengt
     first = λ h l o. m.first h l (round_walk h o);
   }
 
-  pub measured : (r : Result ℕ ℕ) (q : Result ℕ Refusal) → marks.Measured ds free r → MatchResult r (λ p. q ≡ Ok p) (λ v. IsErrAnd q (λ e. e ≡ Loop v)) → Measured c q
+  pub measured : (r : Result ℕ OnLoop) (q : Result ℕ Refusal) → marks.Measured ds free r → MatchResult r (λ p. q ≡ Ok p) (λ found. IsErrAnd q (λ e. e ≡ Loop found.gate)) → Measured c q
   measured (Ok p) q m h = record { outcome = subst (MeasuredAs c) (sym h) (measured_ok p m) }
-  measured (Err v) (Err e) m h = record { outcome = subst (LowestOnLoop c) (sym h) (measured_err v m) }
-  measured (Err v) (Ok p) m h = absurd h
+  measured (Err found) (Err e) m h = record { outcome = subst (LowestOnLoop c) (sym h) (measured_err found.gate m) }
+  measured (Err found) (Ok p) m h = absurd h

@@ -3,8 +3,7 @@ ghost use Rattle.graph.specs.Critical.{Critical};
 
 use super::Graph;
 use super::run::Run;
-use arrayvec::ArrayVec;
-use paths::slowest;
+use paths::Paths;
 use refusals::Refusal;
 
 impl Graph {
@@ -14,10 +13,12 @@ impl Graph {
     {
         self.measure()?;
         let wires = self.wiring();
-        let mut gates = [0; 128];
-        let len = slowest(self.delays.as_slice(), wires.as_slice(), &mut gates);
+        let paths = Paths {
+            delays: self.delays.as_slice(),
+            wires: wires.as_slice(),
+        };
         Ok(Run {
-            gates: ArrayVec::try_from(&gates[..len]).unwrap(),
+            gates: paths.slowest(),
         })
     }
 }

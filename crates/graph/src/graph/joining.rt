@@ -36,8 +36,7 @@ impl Rows<'_> {
         ensures { Spans (circuit_of self.now.delays.now self.now.wires.now self.now.registers.now) result }
     {
         let arcs = double(self.wires);
-        let mut marks = [false; 128];
-        match unreached(arcs.as_slice(), &mut marks[..self.delays.len()]) {
+        match unreached(arcs.as_slice(), self.delays.len()) {
             None => Ok(()),
             Some(g) => Err(Refusal::Apart(g)),
         }

@@ -36,7 +36,7 @@ impl Rows<'_> {
         ensures { Measured (circuit_of self.now.delays.now self.now.wires.now self.now.registers.now) result }
     {
         let arcs = gather(self.wires, self.registers);
-        period(self.delays, arcs.as_slice()).map_err(Refusal::Loop)
+        period(self.delays, arcs.as_slice()).map_err(|found| Refusal::Loop(found.gate))
     }
 }
 

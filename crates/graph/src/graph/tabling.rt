@@ -2,7 +2,7 @@ ghost use Rattle.graph.specs.Reads.{circuit};
 ghost use Rattle.graph.specs.Tabling.{Tables};
 
 use super::Graph;
-use paths::fill_tables;
+use paths::Paths;
 use refusals::Refusal;
 
 impl Graph {
@@ -19,7 +19,11 @@ impl Graph {
         }
         self.measure()?;
         let wires = self.wiring();
-        fill_tables(self.delays.as_slice(), wires.as_slice(), least, most);
+        let paths = Paths {
+            delays: self.delays.as_slice(),
+            wires: wires.as_slice(),
+        };
+        paths.fill_tables(least, most);
         Ok(())
     }
 }

@@ -1,4 +1,4 @@
-use Rattle.std.proofs.Common.{List, length, sym, subst}
+use Rattle.std.proofs.Common.{List, length, sym, subst, rules}
 use Rattle.timing.specs.declared.Arc.{Arc}
 use Rattle.timing.specs.Arcs.{Within}
 use Rattle.timing.specs.Marks.{Measured}
@@ -14,4 +14,4 @@ pub returns : goal.returns
 returns c =
     let s = c.args.self.now in
     let m = subst (λ (as' : List Arc). Measured s.delays.now as' c.period.result) c.as_slice.ensures.value c.period.ensures in
-    lemma.measured s.delays.now s.wires.now s.registers.now s.paired s.inside c.gather-arcs.result.items c.gather-arcs.ensures c.period.result c.map_err.result m c.map_err.ensures.cases
+    lemma.measured s.delays.now s.wires.now s.registers.now s.paired s.inside c.gather-arcs.result.items c.gather-arcs.ensures c.period.result c.map_err.result m (search rules)
