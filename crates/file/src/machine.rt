@@ -1,4 +1,3 @@
-ghost use Rattle.std.specs.Prelude.{◌≡◌, ◌<◌, ◌≤◌};
 ghost use Rattle.file.specs.Theorems.{OneMeaning};
 ghost use Rattle.file.specs.Faults.{Judged};
 
