@@ -1,7 +1,7 @@
 -- Counts of the elements of a list that pass a test, and of the numbers below n that fail one.
 use Rattle.std.proofs.Common.{◌≡◌, ℕ, zero, suc, ◌+◌, ◌<◌, ◌≤◌, Bool, true, false, cond, ◌||◌, eqb, List, [], ◌∷◌, length, get_or, count_by, sym, refl, ap, ◌∙◌, inl, inr, arith}
 use Rattle.timing.specs.Marks.{gap, undone}
-use Rattle.std.proofs.lemmas.List.Sums.{sum_by-cons, get_or-le-sum_by}
+use Rattle.std.proofs.lemmas.List.Sums.{sum_by-cons}
 use Rattle.std.proofs.lemmas.Bool.{cases_eq, cases_Bool, eq-eqb, ne_eqb}
 
 abbrev pub bit : Bool → ℕ
@@ -10,9 +10,6 @@ bit b = cond b 1 0
 bit_zero : (b : Bool) → bit b ≤ 0 → b ≡ false
 bit_zero true h = absurd (omega arith)
 bit_zero false h = refl
-
-pub count_none : {X : Type 0} (p : X → Bool) (xs : List X) (d : X) → count_by p xs ≡ 0 → (k : ℕ) → k < length xs → p (get_or xs k d) ≡ false
-count_none p xs d z k h = bit_zero (p (get_or xs k d)) (let a = get_or-le-sum_by (λ x. cond (p x) 1 0) xs k d h in omega arith)
 
 pub count_some : {X : Type 0} (p : X → Bool) (xs : List X) (d : X) → 0 < count_by p xs → (k : ℕ) × (k < length xs) × (p (get_or xs k d) ≡ true)
 count_some p [] d h = absurd (omega arith)

@@ -1,7 +1,7 @@
 -- Grouping the arcs by the gate that they leave, and going over one gate's arcs, last first.
-use Rattle.std.proofs.Common.{◌≡◌, ℕ, zero, suc, ◌+◌, ◌<◌, ◌≤◌, cond, eqb, List, [], ◌∷◌, ◌++◌, length, get_or, take, set, map, filter, reverse, replicate, Some, None, count_by, Option, sym, refl, ap, ◌∙◌, subst, inl, inr, arith}
-use Rattle.std.proofs.lemmas.List.{get_or-set_same, get_or-set_other, get_or-replicate, length-replicate, length-set, take_all, append-nil, reverse-append}
-use Rattle.std.proofs.lemmas.List.Elements.{filter_more}
+use Rattle.std.proofs.lemmas.Grind.{common_steps}
+use Rattle.std.proofs.Common.{◌≡◌, ℕ, zero, suc, ◌+◌, ◌<◌, ◌≤◌, cond, eqb, List, [], ◌∷◌, ◌++◌, length, get_or, take, set, filter, replicate, Some, None, count_by, Option, sym, refl, ap, ◌∙◌, subst, inl, inr, arith}
+use Rattle.std.proofs.lemmas.List.{take_all}
 use Rattle.std.proofs.lemmas.List.Sums.{sum_by-cons, sum_by-append, count_by_more_yes, count_by_more_no}
 use Rattle.std.proofs.lemmas.Bool.{cases_eq, eq-eqb, ne_eqb, and_from, and_left, and_right}
 use Rattle.timing.specs.declared.Arc.{Arc}
@@ -10,30 +10,8 @@ use Rattle.timing.specs.Groups.{Last, Grouped, Leaves, past, heads, entered}
 use Rattle.timing.proofs.Counting.{bit}
 use Rattle.timing.proofs.Hops.{head_inner}
 
--- ---- one arc more
--- an arc that leaves another gate
-last_past : (arcs : List Arc) (g m : ℕ) (o : Option ℕ) → ((get_or arcs m nowhere).from ≡ g → ⊥) → Last arcs g m o → Last arcs g (m + 1) o
-last_past arcs g m None f l = λ k h e. elim (cases_eq k m) [
-  | inl q ↦ f (sym (ap (λ (x : ℕ). (get_or arcs x nowhere).from) q) ∙ e)
-  | inr n ↦ l k (omega arith) e
-]
-last_past arcs g m (Some i) f l = (
-  (let a = l.0 in omega arith),
-  l.1,
-  λ k h j e. elim (cases_eq k m) [
-    | inl q ↦ f (sym (ap (λ (x : ℕ). (get_or arcs x nowhere).from) q) ∙ e)
-    | inr n ↦ l.2 k h (omega arith) e
-  ],
-)
-
 pub grouped_none : (arcs : List Arc) (m n : ℕ) → m ≡ 128 → n ≡ 512 → Grouped arcs 0 (replicate m None) (replicate n None)
-grouped_none arcs m n a b = record {
-  gates = length-replicate m None ∙ a;
-  places = length-replicate n None ∙ b;
-  ends = λ g h. let w : g < m = omega arith in subst (λ (o : Option ℕ). Last arcs g 0 o) (sym (get_or-replicate m g None None w)) (λ k l e. omega arith);
-  steps = λ i h. absurd (omega arith);
-  unused = λ i l h. get_or-replicate n i None None (omega arith);
-}
+grouped_none arcs m n a b = grind (arith, common_steps)
 
 module _ (arcs : List Arc) (m : ℕ) (last earlier : List (Option ℕ)) (short : m < 512) (small : (get_or arcs m nowhere).from < 128) (old : Grouped arcs m last earlier) where
   abbrev from : ℕ
@@ -42,32 +20,8 @@ module _ (arcs : List Arc) (m : ℕ) (last earlier : List (Option ℕ)) (short :
   abbrev before : Option ℕ
   before = get_or last from None
 
-  ends_then : (g : ℕ) → g < 128 → Last arcs g (m + 1) (get_or (set last from (Some m)) g None)
-  ends_then g h = elim (cases_eq g from) [
-    | inl q ↦
-        let w : from < length last = let a = old.gates in omega arith in
-        let s : get_or (set last from (Some m)) g None ≡ Some m = ap (λ (x : ℕ). get_or (set last from (Some m)) x None) q ∙ get_or-set_same last from (Some m) None w in
-        subst (λ (o : Option ℕ). Last arcs g (m + 1) o) (sym s) (omega arith, sym q, λ k i j e. omega arith)
-    | inr f ↦ subst (λ (o : Option ℕ). Last arcs g (m + 1) o) (sym (get_or-set_other last from g (Some m) None f)) (last_past arcs g m (get_or last g None) (λ e. f (sym e)) (old.ends g h))
-  ]
-
-  steps_then : (i : ℕ) → i < m + 1 → Last arcs (get_or arcs i nowhere).from i (get_or (set earlier m before) i None)
-  steps_then i h = elim (cases_eq i m) [
-    | inl q ↦
-        let w : m < length earlier = let a = old.places in omega arith in
-        let P : ℕ → Type 0 = λ x. Last arcs (get_or arcs x nowhere).from x (get_or (set earlier m before) x None) in
-        subst P (sym q) (subst (λ (o : Option ℕ). Last arcs from m o) (sym (get_or-set_same earlier m before None w)) (old.ends from small))
-    | inr f ↦ subst (λ (o : Option ℕ). Last arcs (get_or arcs i nowhere).from i o) (sym (get_or-set_other earlier m i before None f)) (old.steps i (omega arith))
-  ]
-
   pub grouped_more : Grouped arcs (m + 1) (set last from (Some m)) (set earlier m before)
-  grouped_more = record {
-    gates = length-set last from (Some m) ∙ old.gates;
-    places = length-set earlier m before ∙ old.places;
-    ends = ends_then;
-    steps = steps_then;
-    unused = λ i l h. get_or-set_other earlier m i before None (omega arith) ∙ old.unused i (omega arith) h;
-  }
+  grouped_more = grind (arith, common_steps)
 
 -- ---- the gates that the arcs from u enter
 module _ (arcs : List Arc) (u i : ℕ) (h : i < length arcs) where
@@ -78,14 +32,10 @@ module _ (arcs : List Arc) (u i : ℕ) (h : i < length arcs) where
   here = get_or arcs i nowhere
 
   pub heads_yes : here.from ≡ u → heads (take (i + 1) arcs) u ≡ here.to ∷ heads (take i arcs) u
-  heads_yes e =
-      ap (λ xs. map (λ a. a.to) (reverse xs)) (filter_more (λ a. eqb a.from u) arcs i nowhere h ∙ ap (λ b. from_u (take i arcs) ++ cond b (here ∷ []) []) (eq-eqb here.from u e))
-      ∙ ap (map (λ a. a.to)) (reverse-append (from_u (take i arcs)) (here ∷ []))
+  heads_yes e = grind (arith, common_steps)
 
   heads_no : (here.from ≡ u → ⊥) → heads (take (i + 1) arcs) u ≡ heads (take i arcs) u
-  heads_no f =
-      ap (λ xs. map (λ a. a.to) (reverse xs))
-      (filter_more (λ a. eqb a.from u) arcs i nowhere h ∙ ap (λ b. from_u (take i arcs) ++ cond b (here ∷ []) []) (ne_eqb here.from u f) ∙ append-nil (from_u (take i arcs)))
+  heads_no f = grind (arith, common_steps)
 
 heads_gap : (arcs : List Arc) (u i j : ℕ) → i ≤ j → j ≤ length arcs → ((k : ℕ) → i ≤ k → k < j → (get_or arcs k nowhere).from ≡ u → ⊥) → heads (take j arcs) u ≡ heads (take i arcs) u
 heads_gap arcs u i zero l h f = let z : 0 ≡ i = omega arith in ap (λ (k : ℕ). heads (take k arcs) u) z

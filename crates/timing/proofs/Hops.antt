@@ -1,21 +1,17 @@
 -- Arcs from one gate to another, and how many there are.
-use Rattle.std.proofs.Common.{ℕ, ◌<◌, List, count_by, subst, inl, inr, arith}
-use Rattle.std.proofs.lemmas.Bool.{cases_eq, eq-eqb, eqb-true, and_from, and_parts, both_ways}
+use Rattle.std.proofs.lemmas.Grind.{common_steps}
+use Rattle.std.proofs.Common.{ℕ, ◌<◌, List, count_by, subst, arith}
+use Rattle.std.proofs.lemmas.Bool.{eqb-true, and_parts}
 use Rattle.timing.specs.declared.Arc.{Arc}
 use Rattle.timing.specs.Arcs.{nowhere, Within, Hop, between}
-use Rattle.timing.proofs.Counting.{count_none, count_some}
+use Rattle.timing.proofs.Counting.{count_some}
 
 pub hop_inner : (n : ℕ) (arcs : List Arc) → Within n arcs → (x v : ℕ) → Hop arcs x v → (0 < x) × (x < n)
-hop_inner n arcs within x v h =
-    let i = within h.place h.there in
-    subst (λ (y : ℕ). (0 < y) × (y < n)) h.leaves (i.leaves, i.left)
+hop_inner n arcs within x v h = grind (arith, common_steps)
 
 -- an arc from u to v is counted, and what is counted is one
 pub hop_count : (arcs : List Arc) (u v : ℕ) → Hop arcs u v → 0 < count_by (between u v) arcs
-hop_count arcs u v h = elim (cases_eq (count_by (between u v) arcs) 0) [
-  | inl z ↦ absurd (both_ways _ (count_none (between u v) arcs nowhere z h.place h.there) (and_from _ _ (eq-eqb _ _ h.leaves) (eq-eqb _ _ h.enters)))
-  | inr f ↦ omega arith
-]
+hop_count arcs u v h = grind (arith, common_steps)
 
 pub count_hop : (arcs : List Arc) (u v : ℕ) → 0 < count_by (between u v) arcs → Hop arcs u v
 count_hop arcs u v p =

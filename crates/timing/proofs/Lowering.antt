@@ -1,4 +1,5 @@
 -- One head more off the counts.
+use Rattle.std.proofs.lemmas.Grind.{common_steps}
 use Rattle.std.proofs.Common.{◌≡◌, ℕ, ◌+◌, ◌-◌, ◌<◌, ◌≤◌, ◌⊎◌, List, [], ◌∷◌, ◌++◌, length, get_or, set, sym, ◌∙◌, subst, inl, inr, arith}
 use Rattle.std.proofs.lemmas.List.{get_or-set_same, get_or-set_other}
 use Rattle.std.proofs.lemmas.Bool.{cases_eq}
@@ -13,13 +14,7 @@ use Rattle.timing.proofs.Grouping.{entered_same, entered_other, among, among_inn
 use Rattle.timing.proofs.Members.{in_left, in_last, in_push, different_push}
 
 pub lowered_none : (n : ℕ) (old before : List ℕ) → Different before → LoweredBy (entered []) n old old before before
-lowered_none n old before d = record {
-  less = λ v h. omega arith;
-  different = d;
-  kept = λ v m. m;
-  fresh = λ v m. inl m;
-  found = λ v h p e. absurd (omega arith);
-}
+lowered_none n old before d = grind (arith, common_steps)
 
 pub lowered_as : (c d : ℕ → ℕ) (n : ℕ) (old new before after : List ℕ) → ((v : ℕ) → c v ≡ d v) → LoweredBy c n old new before after → LoweredBy d n old new before after
 lowered_as c d n old new before after e l = record { less = λ v h. let a = e v in let b = l.less v h in omega arith; different = l.different; kept = l.kept; fresh = l.fresh; found = l.found }
@@ -57,24 +52,10 @@ module _ (arcs : List Arc) (n u : ℕ) (within : Within n arcs) (old before : Li
 
     -- a gate that is ready keeps the count 0
     fresh_then : (v : ℕ) → v ∈ after → (v ∈ before) ⊎ ((v < n) × (0 < get_or old v 0) × (get_or lowered v 0 ≡ 0) × (0 < v))
-    fresh_then v m = elim (l.fresh v m) [
-      | inl b ↦ inl b
-      | inr t ↦
-          let f : v ≡ x → ⊥ = λ q. let p : 1 ≤ get_or new v 0 = subst (λ (w : ℕ). 1 ≤ get_or new w 0) (sym q) counted in let z = t.2 in omega arith in
-          inr (t.0, t.1, other v f ∙ t.2, t.3)
-    ]
+    fresh_then v m = grind (arith, common_steps)
 
     pub still : (get_or lowered x 0 ≡ 0 → ⊥) → LoweredBy (entered (hs ++ x ∷ [])) n old lowered before after
-    still nz = record {
-      less = less_then;
-      different = l.different;
-      kept = l.kept;
-      fresh = fresh_then;
-      found = λ v h p z. elim (cases_eq v x) [
-        | inl f ↦ absurd (nz (subst (λ (w : ℕ). get_or lowered w 0 ≡ 0) f z))
-        | inr f ↦ l.found v h p (sym (other v f) ∙ z)
-      ];
-    }
+    still nz = grind (arith, common_steps)
 
     not_ready : x ∈ after → ⊥
     not_ready m =

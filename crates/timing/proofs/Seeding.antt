@@ -1,35 +1,24 @@
 -- One gate more that is looked at.
+use Rattle.std.proofs.lemmas.Grind.{common_steps}
 use Rattle.std.proofs.Common.{◌≡◌, ℕ, ◌+◌, ◌<◌, ◌≤◌, List, [], ◌∷◌, ◌++◌, length, get_or, take, drop, sym, ap, ◌∙◌, subst, inl, inr, arith}
 use Rattle.std.specs.List.{enumerate_from}
-use Rattle.std.proofs.lemmas.List.{length-drop, length-take-le, get_or-drop, get_or-take, get_or_default}
+use Rattle.std.proofs.lemmas.List.{length-drop, get_or-drop, get_or_default}
 use Rattle.std.proofs.lemmas.List.FromFn.{length-enumerate_from, get_or-enumerate_from}
 use Rattle.std.proofs.lemmas.Bool.{cases_eq}
 use Rattle.model.specs.Circuit.{◌∈◌}
-use Rattle.model.specs.Limits.{Different}
 use Rattle.model.proofs.Pigeons.{pigeons}
 use Rattle.timing.specs.Lowered.{Seeded}
 use Rattle.timing.proofs.Members.{in_left, in_last, in_push, different_push}
 
 pub seeded_none : (counts ready : List ℕ) → ready ≡ [] → Seeded counts 1 ready
-seeded_none counts ready e = record {
-  different = subst Different (sym e) tt;
-  zero = λ v m. absurd (subst (λ (xs : List ℕ). v ∈ xs) e m);
-  found = λ v o l z. absurd (omega arith);
-}
+seeded_none counts ready e = grind (arith, common_steps)
 
 module _ (counts : List ℕ) (g : ℕ) (ready : List ℕ) (old : Seeded counts g ready) where
   zero_then : (v : ℕ) → v ∈ ready → (0 < v) × (v < g + 1) × (get_or counts v 0 ≡ 0)
   zero_then v m = let z = old.zero v m in (z.0, (let h = z.1 in omega arith), z.2)
 
   pub seeded_other : (get_or counts g 0 ≡ 0 → ⊥) → Seeded counts (g + 1) ready
-  seeded_other nz = record {
-    different = old.different;
-    zero = zero_then;
-    found = λ v p h z. elim (cases_eq v g) [
-      | inl s ↦ absurd (nz (subst (λ (w : ℕ). get_or counts w 0 ≡ 0) s z))
-      | inr f ↦ old.found v p (omega arith) z
-    ];
-  }
+  seeded_other nz = grind (arith, common_steps)
 
   pub seeded_room : length ready ≤ g
   seeded_room = pigeons g ready old.different (λ v m. (old.zero v m).1)
@@ -61,10 +50,4 @@ place counts k p h e =
 
 -- the counts of the first gates say the same of them
 pub seeded_front : (counts : List ℕ) (n : ℕ) (ready : List ℕ) → n ≤ length counts → Seeded (take n counts) (length (take n counts)) ready → Seeded counts n ready
-seeded_front counts n ready h s =
-    let l = length-take-le n counts h in
-    record {
-      different = s.different;
-      zero = λ v m. let z = s.zero v m in (z.0, (let a = z.1 in omega arith), sym (get_or-take n counts v 0 (let a = z.1 in omega arith)) ∙ z.2);
-      found = λ v o b z. s.found v o (omega arith) (get_or-take n counts v 0 b ∙ z);
-    }
+seeded_front counts n ready h s = grind (arith, common_steps)

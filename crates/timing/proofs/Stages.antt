@@ -1,6 +1,7 @@
 -- The gates that are taken in order, and what is known when some are.
+use Rattle.std.proofs.lemmas.Grind.{common_steps}
 use Rattle.std.proofs.Common.{◌≡◌, ℕ, zero, suc, ◌+◌, ◌-◌, ◌*◌, ◌<◌, ◌≤◌, max, Bool, true, false, not, ◌&&◌, eqb, ◌⊎◌, List, [], ◌∷◌, length, get_or, count_by, sym, refl, ap, ◌∙◌, subst, inl, inr, arith}
-use Rattle.std.proofs.lemmas.Bool.{cases_eq, cases_lt, cases_Bool, eq-eqb, ne_eqb, eqb-true, and_parts, and_cases, not-false, not-true, both_ways}
+use Rattle.std.proofs.lemmas.Bool.{cases_eq, cases_lt, cases_Bool, eq-eqb, ne_eqb, eqb-true, and_parts, not-true, both_ways}
 use Rattle.std.specs.Bool.{then_some}
 use Rattle.model.specs.Circuit.{◌∈◌}
 use Rattle.model.specs.Limits.{Different}
@@ -8,7 +9,7 @@ use Rattle.timing.specs.declared.Arc.{Arc}
 use Rattle.timing.specs.Arcs.{nowhere, Within, Hop, Walk, hop, more, Run, alone, on, spent, Longest, Arrives, NoLoop, Timed, into, between, inflow}
 use Rattle.timing.specs.Lowered.{Lowerable, Lowered, Raised, Seeded}
 use Rattle.timing.specs.Marks.{undone}
-use Rattle.timing.proofs.Counting.{bit, count_none, count_some, count_split, count_same, also, also_same, also_other, also_old, undone_less, undone_none, undone_some, host, undone_host}
+use Rattle.timing.proofs.Counting.{bit, count_some, count_split, count_same, also, also_same, also_other, also_old, undone_less, undone_none, undone_some, host, undone_host}
 use Rattle.timing.proofs.Hops.{hop_inner, hop_count, count_hop, head_inner}
 use Rattle.timing.proofs.Chase.{before, loops}
 
@@ -44,39 +45,12 @@ at_front {ds} {arcs} {counts} {times} {old} {period} {left} {taken} e s = subst 
 -- the arcs from u are those that its taking takes off
 parted : (taken : ℕ → Bool) (u v : ℕ) → taken u ≡ false → (a : Arc)
     → bit (eqb a.to v && not (taken a.from)) ≡ bit (eqb a.to v && not (also u taken a.from)) + bit (between u v a)
-parted taken u v free a = elim (cases_eq a.from u) [
-  | inl e ↦ by_same (eqb a.to v) (taken a.from) (also u taken a.from) (eqb a.from u) (ap taken e ∙ free) (also_same u taken a.from e) (eq-eqb _ _ e)
-  | inr f ↦ by_other (eqb a.to v) (taken a.from) (also u taken a.from) (eqb a.from u) (also_other u taken a.from f) (ne_eqb _ _ f)
-]
-  where
-    by_same : (p t s q : Bool) → t ≡ false → s ≡ true → q ≡ true → bit (p && not t) ≡ bit (p && not s) + bit (q && p)
-    by_same true true s q x y z = absurd (both_ways true x refl)
-    by_same true false false q x y z = absurd (both_ways false refl y)
-    by_same true false true false x y z = absurd (both_ways false refl z)
-    by_same true false true true x y z = refl
-    by_same false t s true x y z = refl
-    by_same false t s false x y z = refl
-
-    by_other : (p t s q : Bool) → s ≡ t → q ≡ false → bit (p && not t) ≡ bit (p && not s) + bit (q && p)
-    by_other p t s true x y = absurd (both_ways true y refl)
-    by_other true true true false x y = refl
-    by_other true true false false x y = absurd (both_ways false refl x)
-    by_other true false true false x y = absurd (both_ways true x refl)
-    by_other true false false false x y = refl
-    by_other false t s false x y = refl
+parted taken u v free a = grind (arith, common_steps)
 
 pub split : (arcs : List Arc) (taken : ℕ → Bool) (u v : ℕ) → taken u ≡ false
     → inflow arcs taken v ≡ inflow arcs (also u taken) v + count_by (between u v) arcs
 split arcs taken u v free =
     count_split (λ a. eqb a.to v && not (taken a.from)) (λ a. eqb a.to v && not (also u taken a.from)) (between u v) (parted taken u v free) arcs
-
--- where no arc from a gate that is not taken enters v, each arc into v is from a taken one
-from_taken : (arcs : List Arc) (taken : ℕ → Bool) (v : ℕ) → inflow arcs taken v ≡ 0 → (k : ℕ) → k < length arcs → (get_or arcs k nowhere).to ≡ v → taken (get_or arcs k nowhere).from ≡ true
-from_taken arcs taken v z k h e =
-    elim (and_cases _ _ (count_none (λ a. eqb a.to v && not (taken a.from)) arcs nowhere z k h)) [
-      | inl f ↦ absurd (both_ways _ f (eq-eqb _ _ e))
-      | inr f ↦ not-false _ f
-    ]
 
 module _ (ds : List ℕ) (arcs : List Arc) (within : Within (length ds) arcs) (counts times rest : List ℕ) (period left u : ℕ) (taken : ℕ → Bool)
     (stage : Stage ds arcs counts times (u ∷ rest) period left taken) where
@@ -85,11 +59,7 @@ module _ (ds : List ℕ) (arcs : List Arc) (within : Within (length ds) arcs) (c
 
   -- a walk or a run that ends at u comes from a taken gate
   hop_taken : (x : ℕ) → Hop arcs x u → (0 < x) × (x < length ds) × (taken x ≡ true)
-  hop_taken x h =
-      let i = hop_inner (length ds) arcs within x u h in
-      let z : inflow arcs taken u ≡ 0 = sym (stage.counted u q.0 q.1) ∙ q.3 in
-      let t = from_taken arcs taken u z h.place h.there h.enters in
-      (i.0, i.1, ap taken (sym h.leaves) ∙ t)
+  hop_taken x h = grind (arith, common_steps)
 
   pub lowerable : (m : ℕ) → length ds ≤ m → Lowerable arcs m u counts rest
   lowerable m wide = record {
@@ -157,12 +127,6 @@ module _ (ds : List ℕ) (arcs : List Arc) (within : Within (length ds) arcs) (c
     less : (v : ℕ) → v < length ds → get_or lowered v 0 ≤ get_or counts v 0
     less v h = let a = low.less v (omega arith) in omega arith
 
-    -- then a gate was not taken before, and is not u
-    not_then : (v : ℕ) → then v ≡ false → (v ≡ u → ⊥) × (taken v ≡ false)
-    not_then v e =
-        let f : v ≡ u → ⊥ = λ s. both_ways _ e (also_same u taken v s) in
-        (f, sym (also_other u taken v f) ∙ e)
-
     then_was : (v : ℕ) → then v ≡ true → (v ≡ u) ⊎ ((v ≡ u → ⊥) × (taken v ≡ true))
     then_was v e = elim (cases_eq v u) [ inl s ↦ inl s | inr f ↦ inr (f, sym (also_other u taken v f) ∙ e) ]
 
@@ -182,12 +146,7 @@ module _ (ds : List ℕ) (arcs : List Arc) (within : Within (length ds) arcs) (c
     ]
 
     waiting_then : (v : ℕ) → 0 < v → v < length ds → then v ≡ false → get_or lowered v 0 ≡ 0 → v ∈ ready
-    waiting_then v o l e z =
-        let n = not_then v e in
-        elim (cases_eq (get_or counts v 0) 0) [
-          | inl c ↦ elim (stage.waiting v o l n.1 c) [ inl s ↦ absurd (n.0 s) | inr m ↦ low.kept v m ]
-          | inr c ↦ low.found v (omega arith) (omega arith) z
-        ]
+    waiting_then v o l e z = grind (arith, common_steps)
 
     counted_out : (v : ℕ) → 0 < v → v < length ds → then v ≡ true → get_or counts v 0 ≡ 0
     counted_out v o l e = elim (then_was v e) [
@@ -200,10 +159,7 @@ module _ (ds : List ℕ) (arcs : List Arc) (within : Within (length ds) arcs) (c
     stays v o l e = rise.kept v (let a = low.less v (omega arith) in let z = counted_out v o l e in omega arith)
 
     grows : (v : ℕ) → get_or times v 0 ≤ get_or later v 0
-    grows v = elim (cases_eq (count_by (between u v) arcs) 0) [
-      | inl z ↦ let a = rise.kept v z in omega arith
-      | inr f ↦ let a = rise.raised v (omega arith) in omega arith
-    ]
+    grows v = grind (arith, common_steps)
 
     starts_most : (v x : ℕ) → Hop arcs x v → then x ≡ true → done ds later x ≤ get_or later v 0
     starts_most v x h e =
