@@ -1,11 +1,7 @@
-use Rattle.std.proofs.Common.{◌≡◌, List, set, Ok, Option, Result, sym, subst, arith}
+use Rattle.std.proofs.Common.{◌≡◌, set, Ok, arith}
 use Rattle.std.proofs.lemmas.Grind.{common_steps}
-use Rattle.model.specs.declared.Wire.{Wire}
-use Rattle.refusals.specs.declared.Refusal.{Refusal}
 use Rattle.graph.specs.Reads.{circuit, wires_of}
 use Rattle.graph.specs.Calls.{set_answer, with_set}
-use Rattle.graph.specs.Measures.{Measured}
-use Rattle.graph.specs.Tries.{TriedAs}
 use Rattle.graph.proofs.Rows.{wires_set}
 use Rattle.graph.proofs.graph.Graph.trial.Goals as goal
 
@@ -15,8 +11,4 @@ returns-clause-answer c =
     let n = c.args.registers in
     let e : set_answer (circuit s) c.args.wire n ≡ Ok tt = grind (arith, common_steps) in
     let w : wires_of s.wires.items (set s.registers.items c.in_ok-at.at c.in_ok-registers.registers) ≡ (with_set (circuit s) c.args.wire n).wires = grind (arith, common_steps, wires_set) in
-    let m = rw (c.as_slice.ensures.value, c.as_slice-2.ensures.value, c.as_mut_slice.ensures.value) at c.trial_in.ensures.answer in
-    record {
-      outcome = subst (λ (a : Result Unit Refusal). TriedAs (circuit s) c.args.wire n a c.trial_in.result) (sym e)
-          (subst (λ (ws : List (Option Wire)). Measured (record { delays = s.delays.items; wires = ws }) c.trial_in.result) w m);
-    }
+    record { outcome = rw e (rw (c.as_slice.ensures.value, c.as_slice-2.ensures.value, c.as_mut_slice.ensures.value, w) at c.trial_in.ensures.answer) }
