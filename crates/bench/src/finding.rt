@@ -34,7 +34,7 @@ impl fmt::Display for Finding {
             Err(refusal) => write!(f, "no period: {refusal}")?,
         }
         match &self.slowest {
-            Ok(run) if run.len > 0 => write!(f, "\nslowest path without registers:{run}"),
+            Ok(run) if !run.gates.is_empty() => write!(f, "\nslowest path without registers:{run}"),
             _ => Ok(()),
         }
     }

@@ -3,5 +3,6 @@ pub mod Gathering
 pub mod Paths
 pub mod Holds
 pub mod Ways
+pub mod Whole
 pub mod Fills
 pub mod Writing

@@ -1,9 +1,6 @@
-use Rattle.std.proofs.Common.{List, length, Option, sym, ap, ◌∙◌, subst, arith}
-use Rattle.std.proofs.lemmas.Grind.{common_steps}
+use Rattle.std.proofs.Common.{length, sym, ap, ◌∙◌}
 use Rattle.std.proofs.lemmas.List.{length-set}
-use Rattle.graph.specs.declared.graph.ends.Ends.{Ends}
-use Rattle.graph.specs.Tables.{Inside, Ceilings}
-use Rattle.graph.proofs.Rows.{written, wires_drop, at_drop}
+use Rattle.graph.proofs.Rows.{written, at_drop}
 use Rattle.graph.proofs.graph.Graph.drop_wire.Goals as goal
 
 pub invariant_of-self-clause-paired : goal.invariant_of-self-clause-paired
@@ -14,9 +11,9 @@ invariant_of-self-clause-paired c =
 pub invariant_of-self-clause-inside : goal.invariant_of-self-clause-inside
 invariant_of-self-clause-inside c =
     let s = c.args.self.now in
-    subst (λ (es : List (Option Ends)). Inside es (length s.delays.items)) (sym (written s.wires c.deref_mut.result.now _ _ c.deref_mut.ensures.value)) (λ k e h. s.inside k e (at_drop s.wires.items _ k e h))
+    rw (written s.wires c.deref_mut.result.now _ _ c.deref_mut.ensures.value) (λ k e h. s.inside k e (at_drop s.wires.items _ k e h))
 
 pub invariant_of-self-clause-capped : goal.invariant_of-self-clause-capped
 invariant_of-self-clause-capped c =
     let s = c.args.self.now in
-    subst Ceilings (sym (written s.wires c.deref_mut.result.now _ _ c.deref_mut.ensures.value)) (λ k e h. s.capped k e (at_drop s.wires.items _ k e h))
+    rw (written s.wires c.deref_mut.result.now _ _ c.deref_mut.ensures.value) (λ k e h. s.capped k e (at_drop s.wires.items _ k e h))

@@ -1,10 +1,6 @@
-use Rattle.std.proofs.Common.{ℕ, ◌≤◌, List, get_or, None, Option, sym, subst, ◌∙◌, rules}
-use Rattle.model.specs.declared.Wire.{Wire}
-use Rattle.paths.specs.Arcs.{registers_of}
 use Rattle.graph.specs.Reads.{circuit}
 use Rattle.graph.proofs.Holds.{deep}
 use Rattle.graph.proofs.graph.Graph.paths.Goals as goal
 
 pub invariant_of-paths-clause-deep : goal.invariant_of-paths-clause-deep
-invariant_of-paths-clause-deep c =
-    subst (λ (ws : List (Option Wire)). (i : ℕ) → registers_of (get_or ws i None) ≤ 255) (sym (c.as_slice-2.ensures.value ∙ c.wiring-wires.ensures.wires)) (deep (circuit c.args.self.now).wires c.wiring-wires.ensures.ranged)
+invariant_of-paths-clause-deep c = rw (c.as_slice-2.ensures.value, c.wiring-wires.ensures.wires) (deep (circuit c.args.self.now).wires c.wiring-wires.ensures.ranged)

@@ -1,9 +1,8 @@
-use Rattle.std.proofs.Common.{◌≡◌, ℕ, ◌<◌, List, [], ◌∷◌, ◌++◌, length, get_or, None, sym, ap, ◌∙◌, refl, subst, arith, ◌+◌}
+use Rattle.std.proofs.Common.{◌≡◌, ℕ, length, None, sym, ap, ◌∙◌, refl, arith}
 use Rattle.std.proofs.lemmas.List.{length_push}
 use Rattle.std.proofs.lemmas.Slice.Zip.{zip_turn}
-use Rattle.timing.specs.declared.Arc.{Arc}
 use Rattle.graph.specs.declared.graph.ends.Ends.{Ends}
-use Rattle.graph.specs.Measures.{Free, Gathered}
+use Rattle.graph.specs.Measures.{Free}
 use Rattle.graph.proofs.Gathering as lemma
 use Rattle.graph.proofs.graph.measuring.gather.Goals as goal
 use Rattle.graph.proofs.graph.measuring.gather.Goals.{in_default-via-in-None-1, in_default-via-in-Some-wire+else-held-eq0, in_default-via-in-Some-wire+then-held-eq0+else-e-ne0, in_default-via-in-Some-wire+then-held-eq0+then-e-ne0+else-e-ne0-2}
@@ -13,13 +12,11 @@ loop-wire-preserved-in-loop-wire c =
     let es = c.args.wires.now in
     let rs = c.args.registers.now in
     let n = length c.loop-wire.yielded in
-    let found = c.loop-wire.arcs.items in
     let turn = zip_turn es rs c.loop-wire.yielded c.into_iter-wire-iterator.result c.loop-wire.wire-iterator c.next.new.self c.next.result (cc) (cc) c.loop-wire.yielded_by (c.in-Some.wire, c.in-Some.held) c.in-Some.is c.next.ensures.steps in
     let e = c.in-Some-wire.e in
-    let free : Free es rs n e = record { lives = sym (turn.2 None) ∙ c.in-Some-wire.is; empty = sym (turn.3 0) ∙ c.if-held-eq0.true; leaves = (let x = c.if-e-ne0.true in omega arith); enters = (let x = c.if-e-ne0-2.true in omega arith) } in
-    let a : Arc = record { from = e.from; to = e.to } in
-    let more = lemma.one_more es rs n found c.loop-wire.invariant.2 e free a (record { leaves = refl; enters = refl }) in
-    ((tt, tt), tt, subst (λ (m : ℕ). Gathered es rs m c.push.new.self.items) (sym (length_push c.loop-wire.yielded (c.in-Some.wire, c.in-Some.held))) (subst (λ (xs : List Arc). Gathered es rs (n + 1) xs) (sym c.push.ensures.items) more))
+    let free : Free es rs n e = record { lives = sym (turn.2 None) ∙ c.in-Some-wire.is; empty = sym (turn.3 0) ∙ c.if-held-eq0.true; leaves = omega (arith, c.if-e-ne0.true); enters = omega (arith, c.if-e-ne0-2.true) } in
+    let more = lemma.one_more es rs n c.loop-wire.arcs.items c.loop-wire.invariant.2 e free (record { from = e.from; to = e.to }) (record { leaves = refl; enters = refl }) in
+    ((tt, tt), tt, rw (length_push, c.push.ensures.items) more)
 
 pub loop-wire-preserved : goal.loop-wire-preserved
 loop-wire-preserved c =
@@ -27,14 +24,13 @@ loop-wire-preserved c =
     let rs = c.args.registers.now in
     let n = length c.loop-wire.yielded in
     let turn = zip_turn es rs c.loop-wire.yielded c.into_iter-wire-iterator.result c.loop-wire.wire-iterator c.next.new.self c.next.result (cc) (cc) c.loop-wire.yielded_by (c.in-Some.wire, c.in-Some.held) c.in-Some.is c.next.ensures.steps in
-    let wire = turn.2 None in
     let held = turn.3 0 in
     let none : (e : Ends) → Free es rs n e → ⊥ = λ e f.
-    let lives = wire ∙ f.lives in
-    elim c.in_default.branch [
-      | in_default-via-in-None-1 w ↦ absurd (cc)
-      | in_default-via-in-Some-wire+else-held-eq0 w ↦ w.if-held-eq0.false (held ∙ f.empty)
-      | in_default-via-in-Some-wire+then-held-eq0+else-e-ne0 w ↦ let same : w.in-Some-wire.e ≡ e = cc in let a = ap (λ (x : Ends). x.from) same in let b = f.leaves in let d = w.if-e-ne0.false in omega arith
-      | in_default-via-in-Some-wire+then-held-eq0+then-e-ne0+else-e-ne0-2 w ↦ let same : w.in-Some-wire.e ≡ e = cc in let a = ap (λ (x : Ends). x.to) same in let b = f.enters in let d = w.if-e-ne0-2.false in omega arith
-    ] in
-    ((tt, tt), tt, subst (λ (m : ℕ). Gathered es rs m c.loop-wire.arcs.items) (sym (length_push c.loop-wire.yielded (c.in-Some.wire, c.in-Some.held))) (lemma.passed_over es rs n c.loop-wire.arcs.items c.loop-wire.invariant.2 none))
+        let lives = turn.2 None ∙ f.lives in
+        elim c.in_default.branch [
+          | in_default-via-in-None-1 w ↦ absurd (cc)
+          | in_default-via-in-Some-wire+else-held-eq0 w ↦ w.if-held-eq0.false (held ∙ f.empty)
+          | in_default-via-in-Some-wire+then-held-eq0+else-e-ne0 w ↦ let same : w.in-Some-wire.e ≡ e = cc in omega (arith, ap (λ (x : Ends). x.from) same, f.leaves, w.if-e-ne0.false)
+          | in_default-via-in-Some-wire+then-held-eq0+then-e-ne0+else-e-ne0-2 w ↦ let same : w.in-Some-wire.e ≡ e = cc in omega (arith, ap (λ (x : Ends). x.to) same, f.enters, w.if-e-ne0-2.false)
+        ] in
+    ((tt, tt), tt, rw length_push (lemma.passed_over es rs n c.loop-wire.arcs.items c.loop-wire.invariant.2 none))
