@@ -4,6 +4,7 @@ use Rattle.words.specs.declared.Kind.{Kind}
 use Rattle.words.specs.declared.Kind.TheVariants.{End, Gate, Wire, Fill, Clock, Cost, Label, Refused, Limited, Other}
 use Rattle.words.specs.declared.reader.Record.{Record}
 use Rattle.words.specs.declared.reader.Record.TheVariants.{Gate as GateRecord, Wire as WireRecord, Clock as ClockRecord}
+use Rattle.words.specs.declared.reader.RecordIter.{RecordIter}
 use Rattle.words.specs.Layout.{kind_of, delay_of, from_of, to_of, price_of, registers_of, floor_of, ceiling_of, clock_of}
 use Rattle.words.specs.Netlist.{Wire as Wired, bare}
 
@@ -33,6 +34,30 @@ StartsAs ws at (Some (ClockRecord part i)) = Stretch ws at Clock 1 part.now i
 
 pub record Starts (ws : List ℕ) (at : ℕ) (r : Option Record) : Type 0 where
   pub outcome : StartsAs ws at r
+
+-- the words of a record
+abbrev pub words_in : Record → List ℕ
+words_in (GateRecord part i) = part.now
+words_in (WireRecord part i) = part.now
+words_in (ClockRecord part i) = part.now
+
+-- how many words a record has, if there is one
+abbrev pub count_in : Option Record → ℕ
+count_in None = 0
+count_in (Some r) = length (words_in r)
+
+-- of records that are read one after another: the words, and the index that is reached
+abbrev pub read : RecordIter → List ℕ
+read s = s.words.now
+
+abbrev pub reached : RecordIter → ℕ
+reached s = s.at
+
+-- the record that starts at the index is given, if one does, and the index behind it is reached
+pub record GivesRecord (s : RecordIter) (r : Option Record) (t : RecordIter) : Type 0 where
+  pub starts : Starts (read s) (reached s) r
+  pub same : read t ≡ read s
+  pub behind : reached t ≡ reached s + count_in r
 
 -- what the words of a record give: a gate's delay, the clock, the wire of one or two words
 abbrev pub gate_in : List ℕ → ℕ
