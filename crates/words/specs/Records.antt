@@ -35,16 +35,16 @@ StartsAs ws at (Some (ClockRecord part i)) = Stretch ws at Clock 1 part.now i
 pub record Starts (ws : List ℕ) (at : ℕ) (r : Option Record) : Type 0 where
   pub outcome : StartsAs ws at r
 
--- the words of a record
-abbrev pub words_in : Record → List ℕ
-words_in (GateRecord part i) = part.now
-words_in (WireRecord part i) = part.now
-words_in (ClockRecord part i) = part.now
+-- the part that a record holds
+abbrev pub part_of : Record → List ℕ
+part_of (GateRecord part i) = part.now
+part_of (WireRecord part i) = part.now
+part_of (ClockRecord part i) = part.now
 
 -- how many words a record has, if there is one
-abbrev pub count_in : Option Record → ℕ
-count_in None = 0
-count_in (Some r) = length (words_in r)
+abbrev pub length_of : Option Record → ℕ
+length_of None = 0
+length_of (Some r) = length (part_of r)
 
 -- of records that are read one after another: the words, and the index that is reached
 abbrev pub read : RecordIter → List ℕ
@@ -57,7 +57,7 @@ reached s = s.at
 pub record GivesRecord (s : RecordIter) (r : Option Record) (t : RecordIter) : Type 0 where
   pub starts : Starts (read s) (reached s) r
   pub same : read t ≡ read s
-  pub behind : reached t ≡ reached s + count_in r
+  pub behind : reached t ≡ reached s + length_of r
 
 -- what the words of a record give: a gate's delay, the clock, the wire of one or two words
 abbrev pub gate_in : List ℕ → ℕ

@@ -1,7 +1,7 @@
 // A file's words taken as records: a gate's word, a wire's one or two, a clock's.
 ghost use Rattle.std.specs.Prelude.{◌≡◌};
 ghost use Rattle.words.specs.Netlist.{bare};
-ghost use Rattle.words.specs.Records.{Starts, words_in, read, reached, gate_in, clock_in, wire_in, fills_at};
+ghost use Rattle.words.specs.Records.{Starts, part_of, read, reached, gate_in, clock_in, wire_in, fills_at};
 
 use crate::Kind;
 use model::Wire;
@@ -15,9 +15,9 @@ pub enum Record<'a> {
 }
 
 impl<'a> Record<'a> {
-    // The words of the record.
-    pub fn words(&self) -> &'a [u32]
-        ensures { result.now ≡ words_in self.now }
+    // The words that the record holds.
+    pub fn part(&self) -> &'a [u32]
+        ensures { result.now ≡ part_of self.now }
     {
         match self {
             Record::Gate(part, _) | Record::Wire(part, _) | Record::Clock(part, _) => part,
@@ -75,7 +75,7 @@ impl<'a> Iterator for RecordIter<'a> {
 
     fn next(&mut self) -> Option<Record<'a>> {
         let record = record_at(self.words, self.at)?;
-        self.at += record.words().len();
+        self.at += record.part().len();
         Some(record)
     }
 }
