@@ -4,6 +4,7 @@ use Rattle.words.specs.declared.Kind.{Kind}
 use Rattle.words.specs.declared.Kind.TheVariants.{End, Gate, Wire, Fill, Clock, Cost, Label, Refused, Limited, Other}
 use Rattle.words.specs.declared.reader.Record.{Record}
 use Rattle.words.specs.declared.reader.Record.TheVariants.{Gate as GateRecord, Wire as WireRecord, Clock as ClockRecord}
+use Rattle.words.specs.declared.reader.RecordIter.{RecordIter}
 use Rattle.words.specs.Layout.{kind_of, delay_of, from_of, to_of, price_of, registers_of, floor_of, ceiling_of, clock_of}
 use Rattle.words.specs.Netlist.{Wire as Wired, bare}
 
@@ -33,6 +34,30 @@ StartsAs ws at (Some (ClockRecord part i)) = Stretch ws at Clock 1 part.now i
 
 pub record Starts (ws : List ℕ) (at : ℕ) (r : Option Record) : Type 0 where
   pub outcome : StartsAs ws at r
+
+-- the part that a record holds
+abbrev pub part_of : Record → List ℕ
+part_of (GateRecord part i) = part.now
+part_of (WireRecord part i) = part.now
+part_of (ClockRecord part i) = part.now
+
+-- how many words a record has, if there is one
+abbrev pub length_of : Option Record → ℕ
+length_of None = 0
+length_of (Some r) = length (part_of r)
+
+-- of records that are read one after another: the words, and the index that is reached
+abbrev pub read : RecordIter → List ℕ
+read s = s.words.now
+
+abbrev pub reached : RecordIter → ℕ
+reached s = s.at
+
+-- the record that starts at the index is given, if one does, and the index behind it is reached
+pub record GivesRecord (s : RecordIter) (r : Option Record) (t : RecordIter) : Type 0 where
+  pub starts : Starts (read s) (reached s) r
+  pub same : read t ≡ read s
+  pub behind : reached t ≡ reached s + length_of r
 
 -- what the words of a record give: a gate's delay, the clock, the wire of one or two words
 abbrev pub gate_in : List ℕ → ℕ

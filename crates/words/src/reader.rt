@@ -1,7 +1,7 @@
 // A file's words taken as records: a gate's word, a wire's one or two, a clock's.
 ghost use Rattle.std.specs.Prelude.{◌≡◌};
 ghost use Rattle.words.specs.Netlist.{bare};
-ghost use Rattle.words.specs.Records.{Starts, gate_in, clock_in, wire_in, fills_at};
+ghost use Rattle.words.specs.Records.{Starts, part_of, read, reached, gate_in, clock_in, wire_in, fills_at};
 
 use crate::Kind;
 use model::Wire;
@@ -12,6 +12,17 @@ pub enum Record<'a> {
     Gate(&'a [u32], usize),
     Wire(&'a [u32], usize),
     Clock(&'a [u32], usize),
+}
+
+impl<'a> Record<'a> {
+    // The words that the record holds.
+    pub fn part(&self) -> &'a [u32]
+        ensures { result.now ≡ part_of self.now }
+    {
+        match self {
+            Record::Gate(part, _) | Record::Wire(part, _) | Record::Clock(part, _) => part,
+        }
+    }
 }
 
 // A fill word stands at `at`.
@@ -33,6 +44,39 @@ pub fn record_at<'a>(words: &'a [u32], at: usize) -> Option<Record<'a>>
         Kind::Wire => Some(Record::Wire(&words[at..at + 1], at)),
         Kind::Clock => Some(Record::Clock(&words[at..at + 1], at)),
         _ => None,
+    }
+}
+
+// The records of a file's words, one after another.
+#[derive(Drop)]
+pub struct RecordIter<'a> {
+    words: &'a [u32],
+    at: usize,
+}
+
+// The records from the first word on, up to a word that starts none.
+pub fn records<'a>(words: &'a [u32]) -> RecordIter<'a>
+    ensures words { read result ≡ words.now }
+    ensures start { reached result ≡ 0 }
+{
+    RecordIter { words, at: 0 }
+}
+
+impl<'a> Iterator for RecordIter<'a> {
+    ghost use Rattle.std.specs.Prelude.{◌-◌, length};
+    ghost use Rattle.std.specs.Iterator.{at_most};
+    ghost use Rattle.words.specs.Records.{GivesRecord};
+
+    type Item = Record<'a>;
+
+    ghost next_gives = { GivesRecord };
+
+    ghost remaining = { λ s. at_most (length (read s) - reached s) };
+
+    fn next(&mut self) -> Option<Record<'a>> {
+        let record = record_at(self.words, self.at)?;
+        self.at += record.part().len();
+        Some(record)
     }
 }
 
