@@ -1,6 +1,5 @@
-use Rattle.std.proofs.Common.{◌≤◌, ℕ, List, length, sym, ◌∙◌, subst, None, arith}
+use Rattle.std.proofs.Common.{◌≤◌, ℕ, length, sym, ◌∙◌, subst, arith}
 use Rattle.std.proofs.lemmas.List.{length-take-le}
-use Rattle.timing.specs.declared.Arc.{Arc}
 use Rattle.timing.specs.Arcs.{Ended}
 use Rattle.graph.specs.Joins.{both_ways}
 use Rattle.graph.proofs.Ways.{both_ended, all_joined, one_apart}
