@@ -1,11 +1,12 @@
 -- A file's graph, record by record: each call is taken, and adds what the record says.
-use Rattle.std.proofs.Common.{◌≡◌, ℕ, zero, suc, ◌+◌, ◌<◌, ◌≤◌, Bool, true, false, cond, ltb, ◌⊎◌, List, [], ◌∷◌, ◌++◌, map, length, get_or, take, drop, Some, Option, Result, sym, refl, ap, ◌∙◌, subst, inl, inr, add-one, arith}
+use Rattle.std.proofs.Common.{◌≡◌, ℕ, ◌+◌, ◌<◌, ◌≤◌, Bool, true, false, cond, ltb, ◌⊎◌, List, [], ◌∷◌, ◌++◌, map, length, get_or, take, drop, Some, Option, sym, refl, ap, ◌∙◌, subst, inl, inr, arith}
 use Rattle.std.specs.List.{AllByRecursion}
-use Rattle.std.proofs.lemmas.List.{append-nil, append_assoc, map_push, length-append, length-map, length-take, length-drop}
-use Rattle.std.proofs.lemmas.Bool.{lt-ltb, le-ltb, lt-leb, cond-true, cond-false, or_from}
+use Rattle.std.proofs.lemmas.List.{drop-drop, append-nil, append_assoc, map_push, length-append, length-map, length-take, length-drop}
+use Rattle.std.proofs.lemmas.Grind.{common_steps}
+use Rattle.std.proofs.lemmas.Bool.Decides.{nat_tests}
+use Rattle.std.proofs.lemmas.Bool.{lt-ltb, cond-true}
 use Rattle.words.specs.declared.Kind.{Kind}
 use Rattle.words.specs.declared.Kind.TheVariants.{End, Gate, Wire, Fill, Clock}
-use Rattle.refusals.specs.declared.Refusal.{Refusal}
 use Rattle.words.specs.declared.reader.Record.{Record}
 use Rattle.words.specs.declared.reader.Record.TheVariants.{Gate as GateRecord, Wire as WireRecord, Clock as ClockRecord}
 use Rattle.words.specs.Layout.{kind_of, gate_word, wire_word, fill_word, clock_word, end_word, to_of}
@@ -16,9 +17,8 @@ use Rattle.model.specs.Circuit.{Circuit, gates}
 use Rattle.file.specs.Faults.{is_gate, is_wire, is_clock}
 use Rattle.file.proofs.Files.{body_long}
 use Rattle.file.proofs.Single.{same_fields}
-use Rattle.graph.specs.Calls.{after, gate_answer, with_gate, with_wire, clock_answer, with_clock}
+use Rattle.graph.specs.Calls.{after, gate_answer, with_gate, clock_answer, with_clock}
 use Rattle.graph.specs.Loading.{wired, circuit_with, clock_with, words_in}
-use Rattle.graph.proofs.Rows.{wire_passed}
 
 -- gates and wires are added, and these are left, with the words of the wires
 pub record Todo (n : Netlist) (rest : List ℕ) (c : Circuit) (left : List ℕ) (later : List Wired) (body : List ℕ) : Type 0 where
@@ -57,18 +57,16 @@ pub record Head (ws : List ℕ) (n x : ℕ) (xs : List ℕ) : Type 0 where
   pub within : n < length ws
   pub next : drop (n + 1) ws ≡ xs
 
-head_suc : (ws : List ℕ) (n x : ℕ) (xs : List ℕ) → drop n ws ≡ x ∷ xs → (get_or ws n 0 ≡ x) × (n < length ws) × (drop (suc n) ws ≡ xs)
-head_suc [] zero x xs e = absurd (let z : ◌≡◌ {A = ℕ} 0 1 = cc in omega arith)
-head_suc [] (suc n) x xs e = absurd (let z : ◌≡◌ {A = ℕ} 0 1 = cc in omega arith)
-head_suc (y ∷ ws) zero x xs e = (cc, omega arith, cc)
-head_suc (y ∷ ws) (suc n) x xs e = let i = head_suc ws n x xs e in (i.0, omega (arith, i.1), i.2)
-
 head : (ws : List ℕ) (n x : ℕ) (xs : List ℕ) → drop n ws ≡ x ∷ xs → Head ws n x xs
-head ws n x xs e = let h = head_suc ws n x xs e in record { here = h.0; within = h.1; next = ap (λ (k : ℕ). drop k ws) (add-one n) ∙ h.2 }
+head ws n x xs e = record {
+  here = grind (arith, common_steps, ap (λ (l : List ℕ). get_or l 0 0) e);
+  within = omega (arith, ap length e, length-drop n ws);
+  next = sym (drop-drop 1 n ws) ∙ ap (drop 1) e;
+}
 
 -- a word of one kind is of no other
 apart : (x : ℕ) (b : Kind → Bool) (k l : Kind) → kind_of x ≡ k → kind_of x ≡ l → b k ≡ true → b l ≡ false → ⊥
-apart x b k l p q e f = let z : ◌≡◌ {A = ℕ} 0 1 = cc in omega arith
+apart x b k l p q e f = absurd (cc)
 
 -- a word that a file has at a place is of its kind
 here_is : (ws : List ℕ) (n x : ℕ) (xs : List ℕ) (k : Kind) → drop n ws ≡ x ∷ xs → kind_of x ≡ k → kind_of (get_or ws n 0) ≡ k
@@ -106,20 +104,14 @@ two_words ws at x y xs part e p = p ∙ ap (take 2) e
 
 -- ---- calls that are taken
 gate_taken : (c : Circuit) (d : ℕ) → d < 0x1_0000 → gates c < 128 → after (gate_answer c d) c (with_gate c d) ≡ with_gate c d
-gate_taken c d h k =
-    ap (λ (r : Result ℕ Refusal). after r c (with_gate c d)) (cond-false _ _ _ (le-ltb 65535 d (omega arith)) ∙ cond-false _ _ _ (lt-leb 128 (gates c) k))
+gate_taken c d h k = grind (arith, nat_tests)
 
 wire_taken : (c : Circuit) (v : Wired) (m : ℕ) → gates c ≡ m + 1 → Joins m v → length c.wires < 512
     → wired c v ≡ record { delays = c.delays; wires = c.wires ++ Some v ∷ [] }
-wire_taken c v m e j h =
-    ap (λ (r : Result ℕ Refusal). after r c (with_wire c v.from v.to v.registers v.price v.floor v.ceiling))
-    (wire_passed c v.from v.to v.registers v.price v.floor v.ceiling
-    (let x = j.from in omega arith) (let x = j.to in omega arith) (let x = j.registers in omega arith) j.priced j.cheap
-    (let x = j.ordered in let y = j.ceiling in omega arith) (let y = j.ceiling in omega arith) j.ordered
-    ∙ cond-false _ _ _ (lt-leb 512 (length c.wires) h))
+wire_taken c v m e j h = grind (arith, nat_tests)
 
 clock_taken : (k : ℕ) (t : Option ℕ) → 1 ≤ k → k < 0x100_0000 → after (clock_answer k) t (with_clock k) ≡ Some k
-clock_taken k t h l = ap (λ (r : Result Unit Refusal). after r t (with_clock k)) (cond-false _ _ _ (or_from _ _ (le-ltb k 1 h) (le-ltb 16777215 k (omega arith))))
+clock_taken k t h l = grind (arith, nat_tests)
 
 module _ (ws : List ℕ) (at : ℕ) (c : Circuit) (t : Option ℕ) (part : List ℕ) (i : ℕ) (n : Netlist) (file : Spells ws n) where
   -- how many are added and how many are left
@@ -295,7 +287,7 @@ module _ (ws : List ℕ) (at : ℕ) (c : Circuit) (t : Option ℕ) (f : Filling 
     where
       stop : (at < length ws) × (opens (kind_of (get_or ws at 0)) ≡ true) → (length ws ≤ at) ⊎ (opens (kind_of (get_or ws at 0)) ≡ false) → ⊥
       stop h (inl l) = omega arith
-      stop h (inr l) = let x = h.1 in let z : ◌≡◌ {A = ℕ} 0 1 = cc in omega arith
+      stop h (inr l) = let x = h.1 in absurd (cc)
 
       go : State f.netlist (drop at ws) c t → Done f.netlist (drop at ws) c t
       go (todo q o) = absurd (stop (opens_as ws at c t [] 0 f.netlist f.file q o) e)

@@ -1,10 +1,9 @@
 -- Paths of weight 0 and register-free loops are the runs and walks along the gathered arcs.
-use Rattle.std.proofs.Common.{◌≡◌, ℕ, zero, suc, ◌+◌, ◌<◌, ◌⊎◌, List, length, get_or, Ok, Err, Option, Result, sym, refl, ap, ◌∙◌, subst, inl, inr, arith}
+use Rattle.std.proofs.Common.{◌≡◌, ℕ, ◌+◌, ◌<◌, ◌⊎◌, List, length, get_or, Ok, Err, Option, Result, sym, refl, ap, ◌∙◌, subst, inl, inr, arith}
 use Rattle.model.specs.declared.Wire.{Wire}
 use Rattle.model.specs.Circuit.{Circuit, delay_of, Inner, Link, Path, gate, step, weight, delay, FreeLoop, Visits, OnFreeLoop}
 use Rattle.model.proofs.Clock.{starts}
 use Rattle.timing.specs.declared.Arc.{Arc}
-use Rattle.timing.specs.Arcs as arcs
 use Rattle.timing.specs.Arcs.{Hop, Walk, hop, more, Run, alone, on, spent, Longest, NoLoop, Within}
 use Rattle.timing.specs.declared.OnLoop.{OnLoop}
 use Rattle.timing.specs.Marks as marks

@@ -1,19 +1,16 @@
 -- The wires that two rows hold, and what a write to the rows does to them.
-use Rattle.std.proofs.Common.{◌≡◌, ℕ, zero, suc, ◌+◌, ◌<◌, ◌≤◌, cond, ltb, leb, List, [], ◌∷◌, ◌++◌, map, length, get_or, set, is_some, Some, None, Ok, Err, Option, Result, sym, refl, ap, ◌∙◌, inl, inr, arith}
-use Rattle.std.proofs.lemmas.Bool.{cond-true, cond-false, lt-leb, le-ltb, or_from, lt-ltb}
+use Rattle.std.proofs.Common.{◌≡◌, ℕ, zero, suc, ◌<◌, List, [], ◌∷◌, ◌++◌, map, length, get_or, set, is_some, Some, None, Option, refl, ap, ◌∙◌, inl, inr, arith}
 use Rattle.std.proofs.lemmas.Grind.{common_steps}
 use Rattle.std.proofs.lemmas.List.{length-set}
 use Rattle.std.specs.List.{zip}
 use Rattle.arrayvec.specs.ArrayVec.{ArrayVec, with_items}
 use Rattle.arrayvec.proofs.ArrayVecLemmas.{items-with_items}
 use Rattle.model.specs.declared.Wire.{Wire}
-use Rattle.model.specs.Circuit.{Circuit, ◌∈◌, kept, gates}
-use Rattle.refusals.specs.declared.Refusal.{Refusal}
-use Rattle.refusals.specs.declared.Refusal.TheVariants.{WiresUsed}
+use Rattle.model.specs.Circuit.{◌∈◌, kept}
 use Rattle.graph.specs.declared.graph.ends.Ends.{Ends}
 use Rattle.graph.specs.Tables.{At}
 use Rattle.graph.specs.Reads.{wire_by, wire_of, wires_of}
-use Rattle.graph.specs.Calls.{holding, wire_answer}
+use Rattle.graph.specs.Calls.{holding}
 
 pub wires_length : (es : List (Option Ends)) (rs : List ℕ) → length rs ≡ length es → length (wires_of es rs) ≡ length es
 wires_length [] rs e = refl
@@ -75,18 +72,6 @@ in_live (x ∷ es) [] w m = absurd m
 in_live (None ∷ es) (r ∷ rs) w m = further (in_live es rs w m)
 in_live (Some x ∷ es) (r ∷ rs) w (inl q) = record { at = 0; ends = x; there = omega arith; lives = refl; is = q }
 in_live (Some x ∷ es) (r ∷ rs) w (inr m) = further (in_live es rs w m)
-
--- ---- a wire whose arguments are in range
-pub wire_passed : (c : Circuit) (from to registers price floor ceiling : ℕ) → from < gates c → to < gates c → registers ≤ 255 → 1 ≤ price → price ≤ 16 → floor ≤ 255 → ceiling ≤ 255 → floor ≤ ceiling
-    → wire_answer c from to registers price floor ceiling ≡ cond (leb 512 (length c.wires)) (Err WiresUsed) (Ok (length c.wires))
-wire_passed c from to registers price floor ceiling a b d e f g h i =
-    cond-false _ _ _ (lt-leb (gates c) from a)
-    ∙ cond-false _ _ _ (lt-leb (gates c) to b)
-    ∙ cond-false _ _ _ (le-ltb 255 registers d)
-    ∙ cond-false _ _ _ (or_from _ _ (le-ltb price 1 e) (le-ltb 16 price f))
-    ∙ cond-false _ _ _ (le-ltb 255 floor g)
-    ∙ cond-false _ _ _ (le-ltb 255 ceiling h)
-    ∙ cond-false _ _ _ (le-ltb ceiling floor i)
 
 -- ---- which slots are there
 some_by : (e : Option Ends) (r : ℕ) → is_some (wire_of e r) ≡ is_some e

@@ -24,7 +24,9 @@ pub use writing::written_again;
 #[derive(Drop)]
 pub struct Graph {
     delays: ArrayVec<u16, 128>,
+    // by number; None where the wire was dropped
     wires: ArrayVec<Option<Ends>, 512>,
+    // by wire number; a list of their own, since a trial lends just these to its guard
     registers: ArrayVec<u8, 512>,
     clock: Option<u32>,
     ghost some: { 0 < length delays.items },

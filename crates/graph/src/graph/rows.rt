@@ -16,7 +16,7 @@ pub struct Rows<'a> {
 }
 
 impl Graph {
-    pub fn rows(&self) -> Rows<'_>
+    pub(super) fn rows(&self) -> Rows<'_>
         ensures delays { result.delays.now ≡ self.now.delays.items }
         ensures wires { result.wires.now ≡ self.now.wires.items }
         ensures registers { result.registers.now ≡ self.now.registers.items }

@@ -1,11 +1,9 @@
-ghost use Rattle.std.specs.Prelude.{◌≡◌, ◌<◌, ◌≤◌, length, slice_set};
-ghost use Rattle.graph.specs.Tables.{Inside};
-ghost use Rattle.graph.specs.Reads.{circuit, circuit_of};
-ghost use Rattle.graph.specs.Measures.{Measured};
+ghost use Rattle.std.specs.Prelude.{◌≡◌, ◌<◌, length, slice_set};
+ghost use Rattle.graph.specs.Reads.{circuit};
 ghost use Rattle.graph.specs.Tries.{Tried};
 
+use super::Graph;
 use super::rows::Rows;
-use super::{Ends, Graph};
 use arrayvec::ArrayVec;
 use refusals::Refusal;
 
@@ -30,22 +28,6 @@ impl Drop for Held<'_> {
     }
 }
 
-impl Held<'_> {
-    fn measure(&self, delays: &[u16], wires: &[Option<Ends>]) -> Result<u32, Refusal>
-        requires sizes { (0 < length delays.now) × (length delays.now ≤ 128) × (length wires.now ≤ 512) }
-        requires paired { length self.now.registers.now.items ≡ length wires.now }
-        requires inside { Inside wires.now (length delays.now) }
-        ensures { Measured (circuit_of delays.now wires.now self.now.registers.now.items) result }
-    {
-        Rows {
-            delays,
-            wires,
-            registers: self.registers.as_slice(),
-        }
-        .measure()
-    }
-}
-
 impl Graph {
     // The period with that number of registers on the wire; the registers are as they were however it ends.
     pub fn trial(&mut self, wire: u32, registers: u32) -> Result<u32, Refusal>
@@ -61,6 +43,11 @@ impl Graph {
             wire: at,
             old,
         };
-        held.measure(self.delays.as_slice(), self.wires.as_slice())
+        let rows = Rows {
+            delays: self.delays.as_slice(),
+            wires: self.wires.as_slice(),
+            registers: held.registers.as_slice(),
+        };
+        rows.measure()
     }
 }

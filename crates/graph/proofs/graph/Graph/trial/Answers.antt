@@ -14,7 +14,7 @@ returns-clause-answer c =
     let n = c.args.registers in
     let e : set_answer (circuit s) c.args.wire n ≡ Ok tt = grind (arith, common_steps) in
     let w : wires_of s.wires.items (with_items s.registers (set c.deref_mut.result.now c.in_ok-at.at c.in_ok-registers.registers)).items ≡ (with_set (circuit s) c.args.wire n).wires = grind (arith, common_steps, written, wires_set) in
-    record { outcome = rw e (rw (c.as_slice.ensures.value, c.as_slice-2.ensures.value, w) at c.measure.ensures) }
+    record { outcome = rw e (rw (c.as_slice.ensures.value, c.as_slice-2.ensures.value, c.as_slice-3.ensures.value, w) at c.measure.ensures) }
 
 pub returns-clause-same : goal.returns-clause-same
 returns-clause-same c =

@@ -1,9 +1,7 @@
-use Rattle.std.proofs.Common.{◌≡◌, ◌-◌, List, length, take, drop, Some, Option, sym, ap, ◌∙◌, subst, arith}
+use Rattle.std.proofs.Common.{◌≡◌, ◌-◌, length, take, drop, Some, ap, ◌∙◌, subst, arith}
 use Rattle.std.proofs.lemmas.List.{take_all, length-drop}
 use Rattle.std.specs.Result.{result_ok}
-use Rattle.model.specs.declared.Wire.{Wire}
 use Rattle.graph.specs.Tables.{Ticks}
-use Rattle.graph.specs.Reads.{circuit}
 use Rattle.graph.proofs.Writing as lemma
 use Rattle.graph.proofs.graph.Graph.write.Goals as goal
 
