@@ -1,6 +1,6 @@
 -- Slowest paths without registers, from one gate and then from all.
-use Rattle.std.proofs.Common.{◌≡◌, ℕ, ◌+◌, ◌<◌, ◌≤◌, true, ◌⊎◌, List, [], ◌∷◌, ◌++◌, reverse, length, get_or, take, Some, None, Option, sym, refl, ap, ◌∙◌, subst, inl, inr, ⊎_elim, arith}
-use Rattle.std.proofs.lemmas.List.{take_more, reverse-append, get_or_default}
+use Rattle.std.proofs.Common.{◌≡◌, ℕ, ◌+◌, ◌<◌, ◌≤◌, true, ◌⊎◌, List, [], reverse, length, get_or, Some, None, Option, sym, refl, ap, ◌∙◌, subst, inl, inr, ⊎_elim, arith}
+use Rattle.std.proofs.lemmas.List.{get_or_default}
 use Rattle.std.proofs.lemmas.Bool.{cases_eq}
 use Rattle.ways.specs.Kinds.{delays, sooner}
 use Rattle.ways.specs.Walks.{Least, total, known, row}
@@ -10,20 +10,8 @@ use Rattle.ways.specs.KindLaws.{delay_laws}
 use Rattle.model.specs.declared.Wire.{Wire}
 use Rattle.model.specs.Circuit.{Circuit, Path, gate, step, Inner, weight, delay, delay_of, gates}
 use Rattle.paths.specs.Arcs.{wire_arcs, circuit, Nearest}
-use Rattle.paths.specs.Slowest.{gates_of, Slowest, entered_of, stations, Free, Top, Reached}
+use Rattle.paths.specs.Slowest.{gates_of, Slowest, stations, Top, Reached}
 use Rattle.paths.proofs.Routes.{sooner_first, sooner_second, begins_inner, to_walk, to_path}
-
--- one wire more
-pub stations_more : (ws : List (Option Wire)) (u i : ℕ) (arcs : List ℕ) → i < length arcs → stations ws u (reverse (take (i + 1) arcs)) ≡ stations ws u (reverse (take i arcs)) ++ (entered_of (get_or ws (get_or arcs i 0) None) ∷ [])
-stations_more ws u i arcs lt = ap (λ ps. stations ws u (reverse ps)) (take_more arcs i 0 lt) ∙ ap (stations ws u) (reverse-append (take i arcs) (get_or arcs i 0 ∷ []))
-
--- one distance more
-pub top_more : (found : List (Way (ℕ × ℕ))) (v d most t : ℕ) → most ≤ t → d ≤ t → Free (known found v).distance d → ((x k : ℕ) → x < v → (known found x).distance ≡ Some (0, k) → k ≤ most)
-    → (x k : ℕ) → x < v + 1 → (known found x).distance ≡ Some (0, k) → k ≤ t
-top_more found v d most t lm ld free below x k lt e = ⊎_elim
-    (λ here. let s = free.0 k (subst (λ i. (known found i).distance ≡ Some (0, k)) here e) in omega arith)
-    (λ ne. let s = below x k (omega arith) e in omega arith)
-    (cases_eq x v)
 
 -- the slowest path without registers from the gates below m has the delay `best` and the gates gs
 pub record SoFar (c : Circuit) (m best : ℕ) (gs : List ℕ) : Type 0 where

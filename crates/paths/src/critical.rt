@@ -13,7 +13,10 @@ use ways::Way;
 fn free_delay(found: Option<(u32, u32)>) -> u32
     ensures { Free found result }
 {
-    found.map_or(0, |x| if x.0 == 0 { x.1 } else { 0 })
+    match found {
+        Some((0, delay)) => delay,
+        _ => 0,
+    }
 }
 
 // A vertex of the greatest delay without registers, and that delay.
@@ -56,7 +59,7 @@ impl Paths<'_, '_> {
     }
 
     // The gates of the way from u over those wires.
-    fn gates(&self, u: u8, arcs: &[u16]) -> ArrayVec<u8, 128>
+    fn stations(&self, u: u8, arcs: &[u16]) -> ArrayVec<u8, 128>
         requires { length arcs.now < 128 }
         ensures { result.items ≡ stations self.now.wires.now u (reverse arcs.now) }
     {
@@ -79,7 +82,7 @@ impl Paths<'_, '_> {
             let (v, d) = self.reach(u, &mut found);
             if best <= d {
                 best = d;
-                gates = self.gates(u as u8, &found[v].arcs);
+                gates = self.stations(u as u8, &found[v].arcs);
             }
         }
         gates

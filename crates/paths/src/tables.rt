@@ -22,7 +22,10 @@ fn cell(own: u32, found: Option<(u32, u32)>) -> (u32, u32)
     requires { (x : ℕ × ℕ) → found ≡ Some x → x.1 + own < 2 ^ 32 }
     ensures { Stands own found result.0 result.1 }
 {
-    found.map_or((0xFFFF_FFFF, 0), |x| (x.0, x.1 + own))
+    found.map_or(
+        (0xFFFF_FFFF, 0),
+        |(registers, delay)| (registers, delay + own),
+    )
 }
 
 // Writes the row of the gate u, whose delay is `own`.

@@ -12,8 +12,8 @@ loop-u-preserved c =
     let p = c.args.self.now in
     elim c.if-best-d.branch [
       | then-best-d w ↦
-          let new = so_far_new p.delays.now p.wires.now c.loop-u.u c.reach-v.result.0 c.reach-v.result.1 c.loop-u.best c.reach-v.new.found _ w.gates-gates.result.items w.deref.result.now _
-          (record { apart = omega arith; there = omega arith }) (omega (arith, w.if-best-d.true)) c.reach-v.ensures w.deref.ensures.0 w.gates-gates.ensures c.loop-u.invariant in
+          let new = so_far_new p.delays.now p.wires.now c.loop-u.u c.reach-v.result.0 c.reach-v.result.1 c.loop-u.best c.reach-v.new.found _ w.stations-gates.result.items w.deref.result.now _
+          (record { apart = omega arith; there = omega arith }) (omega (arith, w.if-best-d.true)) c.reach-v.ensures w.deref.ensures.0 w.stations-gates.ensures c.loop-u.invariant in
           rw (w.best-is, w.gates-is) new
       | else-best-d w ↦
           let same = so_far_same p.delays.now p.wires.now c.loop-u.u c.reach-v.result.0 c.reach-v.result.1 c.loop-u.best c.reach-v.new.found c.loop-u.gates.items
