@@ -1,9 +1,15 @@
 -- Rows of the tables.
-use Rattle.std.proofs.Common.{◌≡◌, ℕ, ◌+◌, ◌-◌, ◌*◌, ◌<◌, ◌≤◌, List, ◌++◌, length, get_or, take, drop, replicate, sym, ap, ◌∙◌, subst, inl, inr, ⊎_elim, mul-le-mul_right, add-mul, one-mul, arith}
+use Rattle.std.proofs.Common.{◌≡◌, ℕ, ◌+◌, ◌-◌, ◌*◌, ◌<◌, ◌≤◌, List, ◌++◌, length, get_or, slice_index, take, drop, replicate, sym, ap, ◌∙◌, subst, inl, inr, ⊎_elim, mul-le-mul_right, add-mul, one-mul, arith}
 use Rattle.std.proofs.lemmas.List.{length-take-le, length-replicate, length-append, length-drop, get_or_append_left, get_or-append_right, get_or-replicate, get_or-drop}
 use Rattle.std.proofs.lemmas.Bool.{cases_eq}
 use Rattle.model.specs.Circuit.{Circuit, gates}
-use Rattle.paths.specs.Rows.{Cell, Rows, Outside, Beyond, Rowed}
+use Rattle.paths.specs.Rows.{Cell, Rows, Outside, Beyond}
+
+-- the row of u is filled, and the other cells are as they were
+pub record Rowed (c : Circuit) (u : ℕ) (W D W' D' : List ℕ) : Type 0 where
+  pub row : (v : ℕ) → v < gates c → Cell c u v (slice_index W' (u * gates c + v)) (slice_index D' (u * gates c + v))
+  pub least : Outside (u * gates c) (gates c) W W'
+  pub most : Outside (u * gates c) (gates c) D D'
 
 -- the row of u ends where that of the next gate begins
 pub row_in : (u m n : ℕ) → u < m → u * n + n ≤ m * n

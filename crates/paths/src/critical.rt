@@ -2,9 +2,8 @@
 ghost use Rattle.std.specs.Prelude.{◌≡◌, ◌<◌, ◌≤◌, length, reverse, Some, None, slice_index_or};
 ghost use Rattle.ways.specs.Walks.{known};
 ghost use Rattle.paths.specs.Arcs.{circuit};
-ghost use Rattle.paths.specs.Slowest.{Slowest, entered_of, stations, Free, Top, Reached};
+ghost use Rattle.paths.specs.Slowest.{Slowest, entered_of, stations, Free, Top};
 
-use crate::nearest::Found;
 use crate::net::Paths;
 use arrayvec::ArrayVec;
 use ways::Way;
@@ -37,16 +36,6 @@ fn farthest(start: usize, found: &[Way<(u32, u32)>]) -> (usize, u32)
 }
 
 impl Paths<'_, '_> {
-    // Where a slowest path without registers from the gate u ends, and its delay; the way found there has its wires.
-    fn reach(&self, u: usize, found: &mut Found) -> (usize, u32)
-        requires { (0 < u) × (u < length self.now.delays.now) }
-        ensures { Reached self.now.delays.now self.now.wires.now u found.new result.0 result.1 }
-    {
-        self.settle(u, found);
-        let (v, d) = farthest(u, &*found);
-        (v, d + u32::from(self.delays[u]))
-    }
-
     // The gate that the wire at the place a enters, or 0 where none is.
     fn entered(&self, a: u16) -> u8
         ensures { result ≡ entered_of (slice_index_or self.now.wires.now a None) }
@@ -75,11 +64,14 @@ impl Paths<'_, '_> {
     pub fn slowest(&self) -> ArrayVec<u8, 128>
         ensures { Slowest (circuit self.now.delays.now self.now.wires.now) result.items }
     {
-        let mut found: Found = Default::default();
+        let mut found: [Way<(u32, u32)>; 128] = Default::default();
+        let found = &mut found[..self.delays.len()];
         let mut gates = ArrayVec::new();
         let mut best = 0;
         for u in 1..self.delays.len() {
-            let (v, d) = self.reach(u, &mut found);
+            self.settle(u, found);
+            let (v, most) = farthest(u, found);
+            let d = most + u32::from(self.delays[u]);
             if best <= d {
                 best = d;
                 gates = self.stations(u as u8, &found[v].arcs);
