@@ -1,11 +1,15 @@
 -- Rows of the tables.
-use Rattle.std.proofs.Common.{◌≡◌, ℕ, ◌+◌, ◌-◌, ◌*◌, ◌<◌, ◌≤◌, ◌≢◌, List, ◌++◌, length, get_or, take, drop, replicate, set, sym, refl, ap, ◌∙◌, subst, inl, inr, ⊎_elim, mul-le-mul_right, add-mul, one-mul, arith}
-use Rattle.std.proofs.lemmas.List.{get_or-set_same, get_or-set_other, length-set, length-take-le, length-replicate, length-append, length-drop, get_or_append_left, get_or-append_right, get_or-replicate, get_or-drop}
+use Rattle.std.proofs.Common.{◌≡◌, ℕ, ◌+◌, ◌-◌, ◌*◌, ◌<◌, ◌≤◌, List, ◌++◌, length, get_or, slice_index, take, drop, replicate, sym, ap, ◌∙◌, subst, inl, inr, ⊎_elim, mul-le-mul_right, add-mul, one-mul, arith}
+use Rattle.std.proofs.lemmas.List.{length-take-le, length-replicate, length-append, length-drop, get_or_append_left, get_or-append_right, get_or-replicate, get_or-drop}
 use Rattle.std.proofs.lemmas.Bool.{cases_eq}
-use Rattle.ways.specs.Walks.{known}
-use Rattle.ways.specs.declared.walk.Way.{Way}
 use Rattle.model.specs.Circuit.{Circuit, gates}
-use Rattle.paths.specs.Rows.{Cell, Rows, Stands, Told, Outside, Beyond, Rowed}
+use Rattle.paths.specs.Rows.{Cell, Rows, Outside, Beyond}
+
+-- the row of u is filled, and the other cells are as they were
+pub record Rowed (c : Circuit) (u : ℕ) (W D W' D' : List ℕ) : Type 0 where
+  pub row : (v : ℕ) → v < gates c → Cell c u v (slice_index W' (u * gates c + v)) (slice_index D' (u * gates c + v))
+  pub least : Outside (u * gates c) (gates c) W W'
+  pub most : Outside (u * gates c) (gates c) D D'
 
 -- the row of u ends where that of the next gate begins
 pub row_in : (u m n : ℕ) → u < m → u * n + n ≤ m * n
@@ -15,31 +19,6 @@ row_in u m n lt =
     let h : u + 1 ≤ m = omega arith in
     let k = mul-le-mul_right n h in
     omega arith
-
--- one cell more
-pub told_more : (base own m i w d : ℕ) (found : List (Way (ℕ × ℕ))) (W D : List ℕ) → i ≡ base + m → i < length W → i < length D
-    → Stands own (known found m).distance w d → Told base own found m W D → Told base own found (m + 1) (set W i w) (set D i d)
-told_more base own m i w d found W D at lw ld s h v lt = ⊎_elim
-    (λ e.
-    let here : base + v ≡ i = omega arith in
-    let a : get_or (set W i w) (base + v) 0 ≡ w = ap (λ k. get_or (set W i w) k 0) here ∙ get_or-set_same W i w 0 lw in
-    let b : get_or (set D i d) (base + v) 0 ≡ d = ap (λ k. get_or (set D i d) k 0) here ∙ get_or-set_same D i d 0 ld in
-    subst (λ x. Stands own (known found v).distance x (get_or (set D i d) (base + v) 0)) (sym a)
-    (subst (λ y. Stands own (known found v).distance w y) (sym b) (subst (λ k. Stands own (known found k).distance w d) (sym e) s)))
-    (λ ne.
-    let far : base + v ≢ i = λ e. ne (omega arith) in
-    subst (λ x. Stands own (known found v).distance x (get_or (set D i d) (base + v) 0)) (sym (get_or-set_other W i (base + v) w 0 far))
-    (subst (λ y. Stands own (known found v).distance (get_or W (base + v) 0) y) (sym (get_or-set_other D i (base + v) d 0 far)) (h v (omega arith))))
-    (cases_eq v m)
-
-pub outside_none : (base n : ℕ) (W : List ℕ) → Outside base n W W
-outside_none base n W = (refl, λ i out. refl)
-
-pub outside_more : (base n m i w : ℕ) (W V : List ℕ) → i ≡ base + m → m < n → Outside base n W V → Outside base n W (set V i w)
-outside_more base n m i w W V at lt h = (
-  length-set V i w ∙ h.0,
-  λ k out. get_or-set_other V i k w 0 (let z : k ≢ i = λ e. ⊎_elim (λ l. omega arith) (λ l. omega arith) out in z) ∙ h.1 k out,
-)
 
 pub rows_more : (c : Circuit) (u : ℕ) (W D W' D' : List ℕ) → Rows c u W D → Rowed c u W D W' D' → Rows c (u + 1) W' D'
 rows_more c u W D W' D' h r a v lt vn = ⊎_elim

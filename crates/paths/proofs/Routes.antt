@@ -1,6 +1,5 @@
 -- Paths of a circuit and walks over its arcs are the same.
-use Rattle.std.proofs.Common.{◌≡◌, ℕ, ◌+◌, ◌*◌, ◌<◌, ◌≤◌, true, false, List, [], ◌∷◌, ◌++◌, length, get_or, take, Some, None, Option, Ok, Err, Result, IsOk, sym, refl, ap, ◌∙◌, subst, inl, inr, arith}
-use Rattle.std.proofs.lemmas.List.{get_or-take}
+use Rattle.std.proofs.Common.{◌≡◌, ℕ, ◌+◌, ◌*◌, ◌<◌, ◌≤◌, true, false, List, [], ◌∷◌, ◌++◌, length, get_or, Some, None, Option, Ok, Err, Result, IsOk, sym, refl, ap, ◌∙◌, subst, inl, inr, arith}
 use Rattle.std.proofs.lemmas.Bool.{true≢false}
 use Rattle.std.proofs.lemmas.Bool.Decides.{nat_tests}
 use Rattle.ways.specs.Kinds.{delays, sooner}
@@ -14,7 +13,8 @@ use Rattle.ways.proofs.Turns.{leads_join, total_join}
 use Rattle.model.specs.declared.Wire.{Wire}
 use Rattle.model.specs.Circuit.{Circuit, Path, gate, step, Inner, Link, weight, delay, delay_of, gates, NoFreeLoop}
 use Rattle.paths.specs.Arcs.{arc_at, wire_arcs, circuit, Nearest}
-use Rattle.paths.specs.Rows.{Cell, Rows, Stands, Told, Outside, Rowed}
+use Rattle.paths.specs.Rows.{Cell, Rows, Stands, Told, Outside}
+use Rattle.paths.proofs.Filling.{Rowed}
 use Rattle.paths.specs.Slowest.{gates_of, stations}
 use Rattle.paths.proofs.Wired.{link_arc, wired, enters}
 
@@ -97,14 +97,11 @@ module _ (ds : List ℕ) (ws : List (Option Wire)) where
         };
       })
 
-  -- a row told of the first distances found, one for each gate
-  pub row_is : (u own n : ℕ) (found : List (Way (ℕ × ℕ))) (W D W' D' : List ℕ) → Inner c u → own ≡ delay_of c u → gates c ≤ length found → Nearest ds ws u found → n ≡ gates c
-      → Told (u * n) own (take (gates c) found) n W' D' → Outside (u * n) n W W' → Outside (u * n) n D D' → Rowed c u W D W' D'
-  row_is u own n found W D W' D' i e room b same told w d = record {
-    row = λ v lt.
-        let h = subst (λ m. Told (u * m) own (take (gates c) found) m W' D') same told v lt in
-        cell_is u v (get_or W' (u * gates c + v) 0) (get_or D' (u * gates c + v) 0) own (known found v).distance i e (b.least v (omega arith))
-        (subst (λ (x : Way (ℕ × ℕ)). Stands own x.distance (get_or W' (u * gates c + v) 0) (get_or D' (u * gates c + v) 0)) (get_or-take (gates c) found v _ lt) h);
+  -- a row told of the distances found
+  pub row_is : (u own n : ℕ) (found : List (Way (ℕ × ℕ))) (W D W' D' : List ℕ) → Inner c u → own ≡ delay_of c u → length found ≡ n → Nearest ds ws u found → n ≡ gates c
+      → Told (u * n) own found n W' D' → Outside (u * n) n W W' → Outside (u * n) n D D' → Rowed c u W D W' D'
+  row_is u own n found W D W' D' i e long b same told w d = record {
+    row = λ v lt. cell_is u v (get_or W' (u * gates c + v) 0) (get_or D' (u * gates c + v) 0) own (known found v).distance i e (b.least v (omega arith)) (subst (λ m. Told (u * m) own found m W' D') same told v lt);
     least = subst (λ m. Outside (u * m) m W W') same w;
     most = subst (λ m. Outside (u * m) m D D') same d;
   }

@@ -1,29 +1,26 @@
 -- Slowest paths without registers, from one gate and then from all.
-use Rattle.std.proofs.Common.{◌≡◌, ℕ, ◌+◌, ◌<◌, ◌≤◌, true, ◌⊎◌, List, [], ◌∷◌, ◌++◌, reverse, length, get_or, take, Some, None, Option, sym, refl, ap, ◌∙◌, subst, inl, inr, ⊎_elim, arith}
-use Rattle.std.proofs.lemmas.List.{take_more, reverse-append, get_or_default}
+use Rattle.std.proofs.Common.{◌≡◌, ℕ, ◌+◌, ◌<◌, ◌≤◌, true, ◌⊎◌, List, [], reverse, length, get_or, Some, None, Option, sym, refl, ap, ◌∙◌, subst, inl, inr, ⊎_elim, arith}
+use Rattle.std.proofs.lemmas.List.{get_or_default}
 use Rattle.std.proofs.lemmas.Bool.{cases_eq}
 use Rattle.ways.specs.Kinds.{delays, sooner}
-use Rattle.ways.specs.Walks.{Least, total, known, row}
+use Rattle.ways.specs.Walks.{Leads, Least, total, known, row}
 use Rattle.ways.specs.declared.net.Arc.{Arc}
 use Rattle.ways.specs.declared.walk.Way.{Way}
 use Rattle.ways.specs.KindLaws.{delay_laws}
 use Rattle.model.specs.declared.Wire.{Wire}
 use Rattle.model.specs.Circuit.{Circuit, Path, gate, step, Inner, weight, delay, delay_of, gates}
 use Rattle.paths.specs.Arcs.{wire_arcs, circuit, Nearest}
-use Rattle.paths.specs.Slowest.{gates_of, Slowest, entered_of, stations, Free, Top, Reached}
+use Rattle.paths.specs.Slowest.{gates_of, Slowest, stations, Top}
 use Rattle.paths.proofs.Routes.{sooner_first, sooner_second, begins_inner, to_walk, to_path}
 
--- one wire more
-pub stations_more : (ws : List (Option Wire)) (u i : ℕ) (arcs : List ℕ) → i < length arcs → stations ws u (reverse (take (i + 1) arcs)) ≡ stations ws u (reverse (take i arcs)) ++ (entered_of (get_or ws (get_or arcs i 0) None) ∷ [])
-stations_more ws u i arcs lt = ap (λ ps. stations ws u (reverse ps)) (take_more arcs i 0 lt) ∙ ap (stations ws u) (reverse-append (take i arcs) (get_or arcs i 0 ∷ []))
-
--- one distance more
-pub top_more : (found : List (Way (ℕ × ℕ))) (v d most t : ℕ) → most ≤ t → d ≤ t → Free (known found v).distance d → ((x k : ℕ) → x < v → (known found x).distance ≡ Some (0, k) → k ≤ most)
-    → (x k : ℕ) → x < v + 1 → (known found x).distance ≡ Some (0, k) → k ≤ t
-top_more found v d most t lm ld free below x k lt e = ⊎_elim
-    (λ here. let s = free.0 k (subst (λ i. (known found i).distance ≡ Some (0, k)) here e) in omega arith)
-    (λ ne. let s = below x k (omega arith) e in omega arith)
-    (cases_eq x v)
+-- the way found to v comes from u without registers, its gates have the delay d together, and no path from u without registers is slower
+pub record Reached (ds : List ℕ) (ws : List (Option Wire)) (u : ℕ) (found : List (Way (ℕ × ℕ))) (v d : ℕ) : Type 0 where
+  pub there : v < length found
+  pub few : length (known found v).arcs.items < 128
+  pub way : Leads (wire_arcs ds ws) u (row found v) v
+  pub free : (total delays (wire_arcs ds ws) (row found v)).0 ≡ 0
+  pub slow : (total delays (wire_arcs ds ws) (row found v)).1 + delay_of (circuit ds ws) u ≡ d
+  pub most : (x : ℕ) (q : Path (circuit ds ws) u x) → weight q ≡ 0 → delay q ≤ d
 
 -- the slowest path without registers from the gates below m has the delay `best` and the gates gs
 pub record SoFar (c : Circuit) (m best : ℕ) (gs : List ℕ) : Type 0 where
@@ -71,14 +68,14 @@ module _ (ds : List ℕ) (ws : List (Option Wire)) where
           let k = top.most x y.1 within (e ∙ ap Some free) in
           omega (arith, r.3)
 
-  pub reached : (u v m : ℕ) (found : List (Way (ℕ × ℕ))) → gates c ≤ 128 → length found ≡ 128 → Nearest ds ws u found → Top found v m
+  pub reached : (u v m : ℕ) (found : List (Way (ℕ × ℕ))) → gates c ≤ 128 → length found ≡ gates c → Nearest ds ws u found → Top found v m
       → Reached ds ws u found v (m + delay_of c u)
   reached u v m found few size b top =
       let w = b.ways v (0, m) top.there top.is in
       let n = b.few v (0, m) top.there top.is in
       let below = top.there in
       record {
-        there = (omega arith, top.there);
+        there = top.there;
         few = omega arith;
         way = w.leads;
         free = ap (λ (t : ℕ × ℕ). t.0) w.sums;
@@ -99,7 +96,7 @@ module _ (ds : List ℕ) (ws : List (Option Wire)) where
       → SoFar c u best gs → SoFar c (u + 1) d new
   so_far_new u v d best found gs new arcs w i le r read is s =
       let p = to_path ds ws u i (row found v) v r.way in
-      let same : arcs ≡ (known found v).arcs.items = read ∙ ap (λ (x : Way (ℕ × ℕ)). x.arcs.items) (get_or_default found v w _ r.there.1) in
+      let same : arcs ≡ (known found v).arcs.items = read ∙ ap (λ (x : Way (ℕ × ℕ)). x.arcs.items) (get_or_default found v w _ r.there) in
       record {
         most = most_more u v d best d found le (omega arith) r s.most;
         met = inr (u, v, p.0, p.1 ∙ r.free, p.3 ∙ sym (is ∙ ap (λ ps. stations ws u (reverse ps)) same), p.2 ∙ r.slow);

@@ -28,9 +28,3 @@ Outside base n xs ys = (length ys ≡ length xs) × ((i : ℕ) → (i < base) �
 -- the cells from `size` on are as they were
 abbrev pub Beyond : ℕ → List ℕ → List ℕ → Type 0
 Beyond size xs ys = (length ys ≡ length xs) × ((i : ℕ) → size ≤ i → slice_index ys i ≡ slice_index xs i)
-
--- the row of u is filled, and the other cells are as they were
-pub record Rowed (c : Circuit) (u : ℕ) (W D W' D' : List ℕ) : Type 0 where
-  pub row : (v : ℕ) → v < gates c → Cell c u v (slice_index W' (u * gates c + v)) (slice_index D' (u * gates c + v))
-  pub least : Outside (u * gates c) (gates c) W W'
-  pub most : Outside (u * gates c) (gates c) D D'

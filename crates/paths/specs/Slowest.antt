@@ -1,11 +1,9 @@
 -- The slowest register-free path.
-use Rattle.std.specs.Prelude.{◌≡◌, ℕ, ◌+◌, ◌<◌, ◌≤◌, ◌⊎◌, List, [], ◌∷◌, ◌++◌, length, Some, None, Option, slice_index_or}
+use Rattle.std.specs.Prelude.{◌≡◌, ℕ, ◌<◌, ◌≤◌, ◌⊎◌, List, [], ◌∷◌, ◌++◌, length, Some, None, Option, slice_index_or}
 use Rattle.model.specs.declared.Wire.{Wire}
-use Rattle.model.specs.Circuit.{Circuit, Path, gate, step, weight, delay, delay_of, gates}
-use Rattle.ways.specs.Kinds.{delays}
-use Rattle.ways.specs.Walks.{Leads, total, known, row}
+use Rattle.model.specs.Circuit.{Circuit, Path, gate, step, weight, delay, gates}
+use Rattle.ways.specs.Walks.{known}
 use Rattle.ways.specs.declared.walk.Way.{Way}
-use Rattle.paths.specs.Arcs.{circuit, wire_arcs}
 
 -- the gates of a path, in their order
 abbrev pub gates_of : {c : Circuit} {u v : ℕ} → Path c u v → List ℕ
@@ -36,12 +34,3 @@ pub record Top (found : List (Way (ℕ × ℕ))) (v m : ℕ) : Type 0 where
   pub there : v < length found
   pub is : (known found v).distance ≡ Some (0, m)
   pub most : (x k : ℕ) → x < length found → (known found x).distance ≡ Some (0, k) → k ≤ m
-
--- the way found to v comes from u without registers, its gates have the delay d together, and no path from u without registers is slower
-pub record Reached (ds : List ℕ) (ws : List (Option Wire)) (u : ℕ) (found : List (Way (ℕ × ℕ))) (v d : ℕ) : Type 0 where
-  pub there : (v < 128) × (v < length found)
-  pub few : length (known found v).arcs.items < 128
-  pub way : Leads (wire_arcs ds ws) u (row found v) v
-  pub free : (total delays (wire_arcs ds ws) (row found v)).0 ≡ 0
-  pub slow : (total delays (wire_arcs ds ws) (row found v)).1 + delay_of (circuit ds ws) u ≡ d
-  pub most : (x : ℕ) (q : Path (circuit ds ws) u x) → weight q ≡ 0 → delay q ≤ d

@@ -2,9 +2,8 @@
 ghost use Rattle.std.specs.Prelude.{◌≡◌, ◌<◌, ◌≤◌, length, reverse, Some, None, slice_index_or};
 ghost use Rattle.ways.specs.Walks.{known};
 ghost use Rattle.paths.specs.Arcs.{circuit};
-ghost use Rattle.paths.specs.Slowest.{Slowest, entered_of, stations, Free, Top, Reached};
+ghost use Rattle.paths.specs.Slowest.{Slowest, entered_of, stations, Free, Top};
 
-use crate::nearest::Found;
 use crate::net::Paths;
 use arrayvec::ArrayVec;
 use ways::Way;
@@ -13,7 +12,10 @@ use ways::Way;
 fn free_delay(found: Option<(u32, u32)>) -> u32
     ensures { Free found result }
 {
-    found.map_or(0, |x| if x.0 == 0 { x.1 } else { 0 })
+    match found {
+        Some((0, delay)) => delay,
+        _ => 0,
+    }
 }
 
 // A vertex of the greatest delay without registers, and that delay.
@@ -34,16 +36,6 @@ fn farthest(start: usize, found: &[Way<(u32, u32)>]) -> (usize, u32)
 }
 
 impl Paths<'_, '_> {
-    // Where a slowest path without registers from the gate u ends, and its delay; the way found there has its wires.
-    fn reach(&self, u: usize, found: &mut Found) -> (usize, u32)
-        requires { (0 < u) × (u < length self.now.delays.now) }
-        ensures { Reached self.now.delays.now self.now.wires.now u found.new result.0 result.1 }
-    {
-        self.settle(u, found);
-        let (v, d) = farthest(u, &*found);
-        (v, d + u32::from(self.delays[u]))
-    }
-
     // The gate that the wire at the place a enters, or 0 where none is.
     fn entered(&self, a: u16) -> u8
         ensures { result ≡ entered_of (slice_index_or self.now.wires.now a None) }
@@ -56,7 +48,7 @@ impl Paths<'_, '_> {
     }
 
     // The gates of the way from u over those wires.
-    fn gates(&self, u: u8, arcs: &[u16]) -> ArrayVec<u8, 128>
+    fn stations(&self, u: u8, arcs: &[u16]) -> ArrayVec<u8, 128>
         requires { length arcs.now < 128 }
         ensures { result.items ≡ stations self.now.wires.now u (reverse arcs.now) }
     {
@@ -72,14 +64,17 @@ impl Paths<'_, '_> {
     pub fn slowest(&self) -> ArrayVec<u8, 128>
         ensures { Slowest (circuit self.now.delays.now self.now.wires.now) result.items }
     {
-        let mut found: Found = Default::default();
+        let mut found: [Way<(u32, u32)>; 128] = Default::default();
+        let found = &mut found[..self.delays.len()];
         let mut gates = ArrayVec::new();
         let mut best = 0;
         for u in 1..self.delays.len() {
-            let (v, d) = self.reach(u, &mut found);
+            self.settle(u, found);
+            let (v, most) = farthest(u, found);
+            let d = most + u32::from(self.delays[u]);
             if best <= d {
                 best = d;
-                gates = self.gates(u as u8, &found[v].arcs);
+                gates = self.stations(u as u8, &found[v].arcs);
             }
         }
         gates

@@ -21,8 +21,8 @@ pub struct Paths<'a, 'b> {
 fn link(w: Wire, delays: &[u16]) -> Option<Arc<(u32, u32)>>
     ensures { result ≡ wire_arc delays.now w }
 {
-    let tail = w.from as usize;
-    let head = w.to as usize;
+    let tail = usize::from(w.from);
+    let head = usize::from(w.to);
     if 0 < tail && tail < delays.len() && 0 < head && head < delays.len() {
         Some(Arc {
             tail,

@@ -3,9 +3,8 @@ ghost use Rattle.std.specs.Prelude.{◌≡◌, ℕ, ◌+◌, ◌*◌, ◌^◌, �
 ghost use Rattle.model.specs.Amounts.{Filled};
 ghost use Rattle.ways.specs.Walks.{known};
 ghost use Rattle.paths.specs.Arcs.{circuit};
-ghost use Rattle.paths.specs.Rows.{Stands, Told, Outside, Beyond, Rowed};
+ghost use Rattle.paths.specs.Rows.{Stands, Told, Outside, Beyond};
 
-use crate::nearest::Found;
 use crate::net::Paths;
 use ways::Way;
 
@@ -22,7 +21,10 @@ fn cell(own: u32, found: Option<(u32, u32)>) -> (u32, u32)
     requires { (x : ℕ × ℕ) → found ≡ Some x → x.1 + own < 2 ^ 32 }
     ensures { Stands own found result.0 result.1 }
 {
-    found.map_or((0xFFFF_FFFF, 0), |x| (x.0, x.1 + own))
+    found.map_or(
+        (0xFFFF_FFFF, 0),
+        |(registers, delay)| (registers, delay + own),
+    )
 }
 
 // Writes the row of the gate u, whose delay is `own`.
@@ -40,18 +42,6 @@ fn write_row(u: usize, own: u32, found: &[Way<(u32, u32)>], least: &mut [u32], m
 }
 
 impl Paths<'_, '_> {
-    // Fills the row of the gate u, which is not the host.
-    fn fill_row(&self, u: usize, found: &mut Found, least: &mut [u32], most: &mut [u32])
-        requires gate { (0 < u) × (u < length self.now.delays.now) }
-        requires room { (u * length self.now.delays.now + length self.now.delays.now ≤ length least.old) × (u * length self.now.delays.now + length self.now.delays.now ≤ length most.old) }
-        ensures { Rowed (circuit self.now.delays.now self.now.wires.now) u least.old most.old least.new most.new }
-    {
-        self.settle(u, found);
-        let ways: &[Way<(u32, u32)>] = found;
-        let ways = &ways[..self.delays.len()];
-        write_row(u, u32::from(self.delays[u]), ways, least, most);
-    }
-
     // Fills the first n * n cells of the tables with W and D, of n gates; a cell without a path gets 4,294,967,295 and 0.
     pub fn fill_tables(&self, least: &mut [u32], most: &mut [u32])
         requires room { (length self.now.delays.now * length self.now.delays.now ≤ length least.old) × (length self.now.delays.now * length self.now.delays.now ≤ length most.old) }
@@ -63,9 +53,11 @@ impl Paths<'_, '_> {
         // No path begins at the host.
         least[..n].fill(0xFFFF_FFFF);
         most[..n].fill(0);
-        let mut found: Found = Default::default();
+        let mut found: [Way<(u32, u32)>; 128] = Default::default();
+        let found = &mut found[..n];
         for u in 1..n {
-            self.fill_row(u, &mut found, least, most);
+            self.settle(u, found);
+            write_row(u, u32::from(self.delays[u]), found, least, most);
         }
     }
 }

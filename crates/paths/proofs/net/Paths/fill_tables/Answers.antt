@@ -1,6 +1,6 @@
-use Rattle.std.proofs.Common.{length, arith, rules}
+use Rattle.std.proofs.Common.{length, refl, arith, rules}
 use Rattle.paths.specs.Arcs.{circuit}
-use Rattle.paths.proofs.Routes.{host_row}
+use Rattle.paths.proofs.Routes.{host_row, row_is}
 use Rattle.paths.proofs.Filling.{row_in, rows_more, beyond_more, beyond_square, front_filled}
 use Rattle.paths.proofs.net.Paths.fill_tables.Goals as goal
 
@@ -17,10 +17,20 @@ loop-u-init c =
       beyond_square n _ _ some d.1,
     )
 
+pub write_row-requires-clause-exact : goal.write_row-requires-clause-exact
+write_row-requires-clause-exact c v x lt e =
+    let few = c.args.self.now.gates.1 in
+    let f = c.settle.ensures.fits v x lt e in
+    let n = c.settle.ensures.few v x lt e in
+    omega arith
+
 pub loop-u-preserved : goal.loop-u-preserved
 loop-u-preserved c =
-    let p = c.args.self.now in (
-      rows_more (circuit p.delays.now p.wires.now) c.loop-u.u c.loop-u.least c.loop-u.most c.fill_row.new.least c.fill_row.new.most c.loop-u.invariant.0 c.fill_row.ensures,
-      beyond_more c.loop-u.u (length p.delays.now) _ c.loop-u.least c.fill_row.new.least (omega arith) c.loop-u.invariant.1 c.fill_row.ensures.least,
-      beyond_more c.loop-u.u (length p.delays.now) _ c.loop-u.most c.fill_row.new.most (omega arith) c.loop-u.invariant.2 c.fill_row.ensures.most,
+    let p = c.args.self.now in
+    let n = length p.delays.now in
+    let r = row_is p.delays.now p.wires.now c.loop-u.u c.from.result (length c.settle.new.found) c.settle.new.found c.loop-u.least c.loop-u.most c.write_row.new.least c.write_row.new.most
+    (record { apart = omega arith; there = omega arith }) c.from.ensures refl c.settle.ensures (omega arith) c.write_row.ensures.told c.write_row.ensures.least c.write_row.ensures.most in (
+      rows_more (circuit p.delays.now p.wires.now) c.loop-u.u c.loop-u.least c.loop-u.most c.write_row.new.least c.write_row.new.most c.loop-u.invariant.0 r,
+      beyond_more c.loop-u.u n _ c.loop-u.least c.write_row.new.least (omega arith) c.loop-u.invariant.1 r.least,
+      beyond_more c.loop-u.u n _ c.loop-u.most c.write_row.new.most (omega arith) c.loop-u.invariant.2 r.most,
     )
