@@ -7,9 +7,6 @@ use Rattle.timing.proofs.Members.{pushed}
 use Rattle.timing.proofs.seed.Goals as goal
 use Rattle.timing.proofs.seed.Goals.{In-Some}
 
-pub loop-gate-init : goal.loop-gate-init
-loop-gate-init c = record { room = omega arith; seeded = lemma.seeded_none c.args.counts.now c.args.ready.now.held c.requires.empty_with_room.1 }
-
 -- the gate that is looked at, and its count
 here : (c : In-Some) → (c.in-Some.gate ≡ length c.loop-gate.yielded + 1) × (length c.loop-gate.yielded + 1 < length c.args.counts.now) × (c.in-Some.count.now ≡ get_or c.args.counts.now (length c.loop-gate.yielded + 1) 0)
 here c =

@@ -33,22 +33,6 @@ some_left c = lemma.some_left c.args.delays.now c.args.arcs.now c.requires.withi
 pub bounds-times-gate : goal.bounds-times-gate
 bounds-times-gate c = let s = at_front c.in-Some.ensures.0 c.loop-gate.invariant.stage.1 in let i = (s.queued c.in-Some.gate (inl refl)).1 in omega arith
 
-pub bounds-delays-gate : goal.bounds-delays-gate
-bounds-delays-gate c = inner (goal.at.bounds-delays-gate c).In-Some
-
-pub overflow_add-time : goal.overflow_add-time
-overflow_add-time c =
-    let ds = c.args.delays.now in
-    let s = front (goal.at.overflow_add-time c).In-Some in
-    let a : get_or c.loop-gate.times c.in-Some.gate 0 ≤ c.loop-gate.period =
-    lemma.start_most ds c.args.arcs.now c.requires.within c.loop-gate.counts c.loop-gate.times c.take.new.self.held c.loop-gate.period c.loop-gate.left c.in-Some.gate c.loop-gate.invariant.stage.0 s in
-    let b : c.loop-gate.period + 65535 * c.loop-gate.left ≤ 65535 * length ds = s.small in
-    let l = some_left (goal.at.overflow_add-time c).In-Some in
-    let n : length ds ≤ 128 = c.requires.sizes.1 in
-    let d = c.type_inv.delays c.in-Some.gate in
-    let e = c.from.ensures in
-    record { fits = omega arith }
-
 pub overflow_sub-left-in-Some : goal.overflow_sub-left-in-Some
 overflow_sub-left-in-Some c = some_left (goal.at.overflow_sub-left-in-Some c).In-Some
 

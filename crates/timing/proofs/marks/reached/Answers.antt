@@ -9,10 +9,6 @@ loop-init c = record { long = omega arith; led = lemma.led_first c.args.arcs.now
 pub loop-preserved : goal.loop-preserved
 loop-preserved c = record { long = c.spread.array_long; led = lemma.led_more c.args.arcs.now c.args.gate _ c.loop.marks c.spread.new.marks c.spread.result c.loop.invariant.led c.spread.ensures }
 
-pub loop-smaller : goal.loop-smaller
-loop-smaller c =
-    subst (λ (n : ℕ). undone (marked c.spread.new.marks) n < undone (marked c.loop.marks) (length c.loop.marks)) (c.loop.invariant.long ∙ sym c.spread.array_long) (c.spread.ensures.fewer c.loop-test.true)
-
 pub returns : goal.returns
 returns c =
     let arcs = c.args.arcs.now in

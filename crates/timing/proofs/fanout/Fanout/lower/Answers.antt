@@ -7,14 +7,6 @@ use Rattle.timing.proofs.Members.{pushed}
 use Rattle.timing.proofs.fanout.Fanout.lower.Goals as goal
 use Rattle.timing.proofs.fanout.Fanout.lower.Goals.{In-Some}
 
-pub loop-head-init : goal.loop-head-init
-loop-head-init c = record {
-  all = c.into_iter-head-iterator.ensures.into_iter_gives ∙ c.heads-head-items.ensures.heads;
-  room = omega arith;
-  long = omega arith;
-  lowered = lemma.lowered_none 128 c.args.counts.now c.args.ready.now.held c.requires.lowerable.different;
-}
-
 among : (c : In-Some) → c.loop-head.yielded ++ c.in-Some.head ∷ c.next.new.self ≡ heads c.args.self.now c.args.gate
 among c = ap (λ hs. c.loop-head.yielded ++ hs) (sym c.in-Some.ensures.steps) ∙ c.loop-head.invariant.all
 
