@@ -11,14 +11,14 @@ use Rattle.words.specs.declared.reader.Record.{Record}
 use Rattle.words.specs.declared.reader.Record.TheVariants.{Gate as GateRecord, Wire as WireRecord, Clock as ClockRecord}
 use Rattle.words.specs.Layout.{kind_of, gate_word, wire_word, fill_word, clock_word, end_word, to_of}
 use Rattle.words.specs.Netlist.{Wire as Wired, Netlist, Joins, WithinLimits, WireWords, none, alone, filled, Spells, bare, circuit_of}
-use Rattle.words.specs.Records.{is_fill, opens, fills_at, Stretch, StartsAs, gate_in, clock_in, wire_in}
+use Rattle.words.specs.Records.{is_fill, opens, fills_at, Stretch, StartsAs, part_of, gate_in, clock_in, wire_in}
 use Rattle.words.proofs.Both.{trips}
 use Rattle.model.specs.Circuit.{Circuit, gates}
 use Rattle.file.specs.Faults.{is_gate, is_wire, is_clock}
 use Rattle.file.proofs.Files.{body_long}
 use Rattle.file.proofs.Single.{same_fields}
 use Rattle.graph.specs.Calls.{after, gate_answer, with_gate, clock_answer, with_clock}
-use Rattle.graph.specs.Loading.{wired, circuit_with, clock_with, words_in}
+use Rattle.graph.specs.Loading.{wired, circuit_with, clock_with}
 
 -- gates and wires are added, and these are left, with the words of the wires
 pub record Todo (n : Netlist) (rest : List ℕ) (c : Circuit) (left : List ℕ) (later : List Wired) (body : List ℕ) : Type 0 where
@@ -264,7 +264,7 @@ module _ (ws : List ℕ) (at : ℕ) (c : Circuit) (t : Option ℕ) (f : Filling 
   no_end b k o e p q = apart (get_or ws at 0) b k End e (here_is ws at _ _ End o.rest_is (trips.end o.count o.small).0.kind) p q
 
   -- one record more
-  pub turn : (item : Record) → StartsAs ws at (Some item) → Filling ws (at + words_in item) (circuit_with c item) (clock_with t item)
+  pub turn : (item : Record) → StartsAs ws at (Some item) → Filling ws (at + length (part_of item)) (circuit_with c item) (clock_with t item)
   turn (GateRecord part i) st = go f.state
     where
       go : State f.netlist (drop at ws) c t → Filling ws (at + length part.now) (after (gate_answer c (gate_in part.now)) c (with_gate c (gate_in part.now))) t
@@ -292,20 +292,3 @@ module _ (ws : List ℕ) (at : ℕ) (c : Circuit) (t : Option ℕ) (f : Filling 
       go : State f.netlist (drop at ws) c t → Done f.netlist (drop at ws) c t
       go (todo q o) = absurd (stop (opens_as ws at c t [] 0 f.netlist f.file q o) e)
       go (done o) = o
-
--- ---- a record has one word at least, and stands within the words
-in_stretch : (ws : List ℕ) (at k : ℕ) (kind : Kind) (part : List ℕ) (i : ℕ) → 1 ≤ k → Stretch ws at kind k part i → (1 ≤ length part) × (at + length part ≤ length ws)
-in_stretch ws at k kind part i h st =
-    let a = ap length st.words ∙ length-take k (drop at ws) in
-    let b = length-drop at ws in
-    let c = st.within in
-    (omega arith, omega arith)
-
-one_or_two : (b : Bool) → 1 ≤ cond b 2 1
-one_or_two true = omega arith
-one_or_two false = omega arith
-
-pub some_words : (ws : List ℕ) (at : ℕ) (item : Record) → StartsAs ws at (Some item) → (1 ≤ words_in item) × (at + words_in item ≤ length ws)
-some_words ws at (GateRecord part i) st = in_stretch ws at 1 Gate part.now i (omega arith) st
-some_words ws at (WireRecord part i) st = in_stretch ws at (cond (fills_at ws (at + 1)) 2 1) Wire part.now i (one_or_two (fills_at ws (at + 1))) st
-some_words ws at (ClockRecord part i) st = in_stretch ws at 1 Clock part.now i (omega arith) st

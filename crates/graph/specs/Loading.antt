@@ -1,5 +1,5 @@
 -- What a load leaves.
-use Rattle.std.specs.Prelude.{◌≡◌, ℕ, List, length, Some, Ok, Err, Option, Result}
+use Rattle.std.specs.Prelude.{◌≡◌, ℕ, List, Some, Ok, Err, Option, Result}
 use Rattle.model.specs.declared.Wire.{Wire}
 use Rattle.model.specs.Circuit.{Circuit}
 use Rattle.refusals.specs.declared.LoadRefusal.{LoadRefusal}
@@ -52,8 +52,3 @@ abbrev pub clock_with : Option ℕ → Record → Option ℕ
 clock_with t (Gate part i) = t
 clock_with t (WireRecord part i) = t
 clock_with t (Clock part i) = after (clock_answer (clock_in part.now)) t (with_clock (clock_in part.now))
-
-abbrev pub words_in : Record → ℕ
-words_in (Gate part i) = length part.now
-words_in (WireRecord part i) = length part.now
-words_in (Clock part i) = length part.now

@@ -1,23 +1,21 @@
 ghost use Rattle.std.specs.Prelude.{◌≡◌};
 ghost use Rattle.words.specs.Netlist.{Netlist, Spells};
 ghost use Rattle.graph.specs.Reads.{circuit};
-ghost use Rattle.graph.specs.Loading.{Loads, Replaced, circuit_with, clock_with, words_in};
+ghost use Rattle.graph.specs.Loading.{Loads, Replaced, circuit_with, clock_with};
 
 use super::Graph;
 use file::machine::judge;
 use refusals::LoadRefusal;
-use words::reader::{Record, clock_in, gate_in, record_at, wire_in};
+use words::reader::{Record, clock_in, gate_in, records, wire_in};
 
-// Makes the call that a record stands for, and answers how many words the record has.
-fn add(graph: &mut Graph, item: Record<'_>) -> usize
+// Makes the call that a record stands for.
+fn add(graph: &mut Graph, item: Record<'_>)
     ensures circuit { circuit graph.new ≡ circuit_with (circuit graph.old) item.entry }
     ensures clock { graph.new.clock ≡ clock_with graph.old.clock item.entry }
-    ensures words { result ≡ words_in item.entry }
 {
     match item {
         Record::Gate(part, _) => {
             let _ = graph.gate(u32::from(gate_in(part)));
-            part.len()
         }
         Record::Wire(part, _) => {
             let wire = wire_in(part);
@@ -29,11 +27,9 @@ fn add(graph: &mut Graph, item: Record<'_>) -> usize
                 u32::from(wire.floor),
                 u32::from(wire.ceiling),
             );
-            part.len()
         }
         Record::Clock(part, _) => {
             let _ = graph.clock(clock_in(part));
-            part.len()
         }
     }
 }
@@ -44,9 +40,8 @@ fn read(words: &[u32]) -> Graph
     ensures { Replaced words.now result }
 {
     let mut graph = Graph::new();
-    let mut at = 0;
-    while let Some(item) = record_at(words, at) {
-        at += add(&mut graph, item);
+    for item in records(words) {
+        add(&mut graph, item);
     }
     graph
 }
