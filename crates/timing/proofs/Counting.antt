@@ -1,15 +1,12 @@
 -- Counts of the elements of a list that pass a test, and of the numbers below n that fail one.
+use Rattle.std.proofs.lemmas.Grind.{common_steps}
 use Rattle.std.proofs.Common.{◌≡◌, ℕ, zero, suc, ◌+◌, ◌<◌, ◌≤◌, Bool, true, false, cond, ◌||◌, eqb, List, [], ◌∷◌, length, get_or, count_by, sym, refl, ap, ◌∙◌, inl, inr, arith}
 use Rattle.timing.specs.Marks.{gap, undone}
 use Rattle.std.proofs.lemmas.List.Sums.{sum_by-cons}
-use Rattle.std.proofs.lemmas.Bool.{cases_eq, cases_Bool, eq-eqb, ne_eqb}
+use Rattle.std.proofs.lemmas.Bool.{cases_eq, cases_Bool, ne_eqb}
 
 abbrev pub bit : Bool → ℕ
 bit b = cond b 1 0
-
-bit_zero : (b : Bool) → bit b ≤ 0 → b ≡ false
-bit_zero true h = absurd (omega arith)
-bit_zero false h = refl
 
 pub count_some : {X : Type 0} (p : X → Bool) (xs : List X) (d : X) → 0 < count_by p xs → (k : ℕ) × (k < length xs) × (p (get_or xs k d) ≡ true)
 count_some p [] d h = absurd (omega arith)
@@ -46,13 +43,13 @@ abbrev pub also : ℕ → (ℕ → Bool) → ℕ → Bool
 also u t g = eqb g u || t g
 
 pub also_same : (u : ℕ) (t : ℕ → Bool) (g : ℕ) → g ≡ u → also u t g ≡ true
-also_same u t g e = ap (λ (b : Bool). b || t g) (eq-eqb g u e)
+also_same u t g e = grind (arith, common_steps)
 
 pub also_other : (u : ℕ) (t : ℕ → Bool) (g : ℕ) → (g ≡ u → ⊥) → also u t g ≡ t g
-also_other u t g f = ap (λ (b : Bool). b || t g) (ne_eqb g u f)
+also_other u t g f = grind (arith, common_steps)
 
 pub also_old : (u : ℕ) (t : ℕ → Bool) (g : ℕ) → t g ≡ true → also u t g ≡ true
-also_old u t g e = elim (cases_eq g u) [ inl q ↦ also_same u t g q | inr f ↦ also_other u t g f ∙ e ]
+also_old u t g e = grind (arith, common_steps)
 
 pub undone_same : (t s : ℕ → Bool) (n : ℕ) → ((k : ℕ) → k < n → t k ≡ s k) → undone t n ≡ undone s n
 undone_same t s zero h = refl

@@ -1,6 +1,6 @@
 -- Arcs from one gate to another, and how many there are.
 use Rattle.std.proofs.lemmas.Grind.{common_steps}
-use Rattle.std.proofs.Common.{ℕ, ◌<◌, List, count_by, subst, arith}
+use Rattle.std.proofs.Common.{ℕ, ◌<◌, List, count_by, arith}
 use Rattle.std.proofs.lemmas.Bool.{eqb-true, and_parts}
 use Rattle.timing.specs.declared.Arc.{Arc}
 use Rattle.timing.specs.Arcs.{nowhere, Within, Hop, between}
@@ -21,7 +21,4 @@ count_hop arcs u v p =
 
 -- what an arc enters is a gate, and not the host
 pub head_inner : (n : ℕ) (arcs : List Arc) → Within n arcs → (u v : ℕ) → 0 < count_by (between u v) arcs → (0 < v) × (v < n)
-head_inner n arcs within u v p =
-    let h = count_hop arcs u v p in
-    let i = within h.place h.there in
-    subst (λ (y : ℕ). (0 < y) × (y < n)) h.enters (i.enters, i.entered)
+head_inner n arcs within u v p = grind (arith, common_steps, count_hop arcs u v p)

@@ -4,7 +4,6 @@ use Rattle.std.proofs.Common.{◌≡◌, ℕ, ◌+◌, ◌-◌, ◌<◌, ◌≤�
 use Rattle.std.proofs.lemmas.List.{get_or-set_same, get_or-set_other}
 use Rattle.std.proofs.lemmas.Bool.{cases_eq}
 use Rattle.model.specs.Circuit.{◌∈◌}
-use Rattle.model.specs.Limits.{Different}
 use Rattle.model.proofs.Pigeons.{pigeons}
 use Rattle.timing.specs.declared.Arc.{Arc}
 use Rattle.timing.specs.Arcs.{Within}
@@ -12,9 +11,6 @@ use Rattle.timing.specs.Groups.{heads, entered}
 use Rattle.timing.specs.Lowered.{Lowerable, LoweredBy}
 use Rattle.timing.proofs.Grouping.{entered_same, entered_other, among, among_inner}
 use Rattle.timing.proofs.Members.{in_left, in_last, in_push, different_push}
-
-pub lowered_none : (n : ℕ) (old before : List ℕ) → Different before → LoweredBy (entered []) n old old before before
-lowered_none n old before d = grind (arith, common_steps)
 
 pub lowered_as : (c d : ℕ → ℕ) (n : ℕ) (old new before after : List ℕ) → ((v : ℕ) → c v ≡ d v) → LoweredBy c n old new before after → LoweredBy d n old new before after
 lowered_as c d n old new before after e l = record { less = λ v h. let a = e v in let b = l.less v h in omega arith; different = l.different; kept = l.kept; fresh = l.fresh; found = l.found }
@@ -39,16 +35,7 @@ module _ (arcs : List Arc) (n u : ℕ) (within : Within n arcs) (old before : Li
     other v f = get_or-set_other new x v (get_or new x 0 - 1) 0 f
 
     less_then : (v : ℕ) → v < n → get_or lowered v 0 + entered (hs ++ x ∷ []) v ≡ get_or old v 0
-    less_then v h =
-        let b = l.less v h in
-        elim (cases_eq v x) [
-          | inl f ↦
-              let a = entered_same hs x v f in
-              let s : get_or lowered v 0 ≡ get_or new v 0 - 1 = subst (λ (w : ℕ). get_or lowered w 0 ≡ get_or new w 0 - 1) (sym f) same in
-              let c : 1 ≤ get_or new v 0 = subst (λ (w : ℕ). 1 ≤ get_or new w 0) (sym f) counted in
-              omega arith
-          | inr f ↦ let a = entered_other hs x v f in let o = other v f in omega arith
-        ]
+    less_then v h = grind (arith, common_steps, entered_same hs x v, entered_other hs x v, l.less v h, same, other v, counted)
 
     -- a gate that is ready keeps the count 0
     fresh_then : (v : ℕ) → v ∈ after → (v ∈ before) ⊎ ((v < n) × (0 < get_or old v 0) × (get_or lowered v 0 ≡ 0) × (0 < v))
@@ -58,12 +45,7 @@ module _ (arcs : List Arc) (n u : ℕ) (within : Within n arcs) (old before : Li
     still nz = grind (arith, common_steps)
 
     not_ready : x ∈ after → ⊥
-    not_ready m =
-        let c = counted in
-        elim (l.fresh x m) [
-          | inl b ↦ let z = (low.zero x b).1 in let f = l.less x inner.1 in omega arith
-          | inr t ↦ let z = t.2 in omega arith
-        ]
+    not_ready m = grind (arith, common_steps, l.fresh x m, low.zero x, l.less x inner.1, counted)
 
     below : (v : ℕ) → v ∈ (x ∷ after) → v < n
     below v (inl q) = subst (λ (w : ℕ). w < n) (sym q) inner.1

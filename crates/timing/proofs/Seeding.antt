@@ -10,9 +10,6 @@ use Rattle.model.proofs.Pigeons.{pigeons}
 use Rattle.timing.specs.Lowered.{Seeded}
 use Rattle.timing.proofs.Members.{in_left, in_last, in_push, different_push}
 
-pub seeded_none : (counts ready : List ℕ) → ready ≡ [] → Seeded counts 1 ready
-seeded_none counts ready e = grind (arith, common_steps)
-
 module _ (counts : List ℕ) (g : ℕ) (ready : List ℕ) (old : Seeded counts g ready) where
   zero_then : (v : ℕ) → v ∈ ready → (0 < v) × (v < g + 1) × (get_or counts v 0 ≡ 0)
   zero_then v m = let z = old.zero v m in (z.0, (let h = z.1 in omega arith), z.2)

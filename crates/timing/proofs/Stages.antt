@@ -1,7 +1,7 @@
 -- The gates that are taken in order, and what is known when some are.
 use Rattle.std.proofs.lemmas.Grind.{common_steps}
 use Rattle.std.proofs.Common.{◌≡◌, ℕ, zero, suc, ◌+◌, ◌-◌, ◌*◌, ◌<◌, ◌≤◌, max, Bool, true, false, not, ◌&&◌, eqb, ◌⊎◌, List, [], ◌∷◌, length, get_or, count_by, sym, refl, ap, ◌∙◌, subst, inl, inr, arith}
-use Rattle.std.proofs.lemmas.Bool.{cases_eq, cases_lt, cases_Bool, eq-eqb, ne_eqb, eqb-true, and_parts, not-true, both_ways}
+use Rattle.std.proofs.lemmas.Bool.{cases_eq, cases_lt, cases_Bool, ne_eqb, eqb-true, and_parts, not-true, both_ways}
 use Rattle.std.specs.Bool.{then_some}
 use Rattle.model.specs.Circuit.{◌∈◌}
 use Rattle.model.specs.Limits.{Different}
@@ -76,10 +76,10 @@ module _ (ds : List ℕ) (arcs : List Arc) (within : Within (length ds) arcs) (c
 
   -- u is not among the others that are ready
   apart : (v : ℕ) → v ∈ rest → v ≡ u → ⊥
-  apart v m e = stage.different.0 (subst (λ (w : ℕ). w ∈ rest) e m)
+  apart v m e = grind (arith, common_steps, stage.different)
 
   pub some_left : 1 ≤ left
-  some_left = let a = undone_less taken u (length ds) q.1 q.2 in let b = stage.lefts in omega arith
+  some_left = grind (arith, common_steps, undone_less taken u (length ds), q, stage.lefts)
 
   abbrev time : ℕ
   time = done ds times u
@@ -215,18 +215,10 @@ module _ (ds : List ℕ) (arcs : List Arc) (within : Within (length ds) arcs) (c
         ])
 
     clear_then : (v : ℕ) → 0 < v → v < length ds → then v ≡ true → Walk arcs v v → ⊥
-    clear_then v o l e w = elim (then_was v e) [
-      | inl s ↦ no_walk v s (subst (λ (g : ℕ). Walk arcs v g) s w)
-      | inr t ↦ stage.clear v o l t.1 w
-    ]
+    clear_then v o l e w = grind (arith, common_steps, no_walk v, stage.clear v o l)
 
     most_then : (v : ℕ) → 0 < v → v < length ds → then v ≡ true → done ds later v ≤ next
-    most_then v o l e =
-        let a = stays v o l e in
-        elim (then_was v e) [
-          | inl s ↦ let b = ap (done ds times) s in omega arith
-          | inr t ↦ let b = stage.most v o l t.1 in omega arith
-        ]
+    most_then v o l e = grind (arith, then_was v e, stays v o l e, stage.most v o l)
 
     met_then : (next ≡ 0) ⊎ ((x : ℕ) × (v : ℕ) × (r : Run ds arcs x v) × (spent r ≡ next))
     met_then = elim (cases_lt period time) [
@@ -329,7 +321,4 @@ module _ (ds : List ℕ) (arcs : List Arc) (within : Within (length ds) arcs) (c
           ((get_or arcs m.0 nowhere).from, record { place = m.0; there = m.1; leaves = refl; enters = eqb-true _ _ p.0 }, (within m.0 m.1).left, not-true _ p.1)
 
   pub settled : ready ≡ [] → Timed ds arcs (then_some (eqb left 0) period)
-  settled none = elim (cases_eq left 0) [
-    | inl z ↦ subst (λ b. Timed ds arcs (then_some b period)) (sym (eq-eqb left 0 z)) (all_taken z)
-    | inr f ↦ subst (λ b. Timed ds arcs (then_some b period)) (sym (ne_eqb left 0 f)) (stuck none (omega arith))
-  ]
+  settled none = grind (arith, common_steps, all_taken, stuck)

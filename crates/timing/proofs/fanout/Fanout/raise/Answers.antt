@@ -6,9 +6,6 @@ use Rattle.timing.proofs.Raising as lemma
 use Rattle.timing.proofs.fanout.Fanout.raise.Goals as goal
 use Rattle.timing.proofs.fanout.Fanout.raise.Goals.{In-Some}
 
-pub loop-head-init : goal.loop-head-init
-loop-head-init c = record { all = c.into_iter-head-iterator.ensures.into_iter_gives ∙ c.heads-head-items.ensures.heads; long = omega arith; raised = lemma.raised_none c.args.time c.args.times.now }
-
 among : (c : In-Some) → c.loop-head.yielded ++ c.in-Some.head ∷ c.next.new.self ≡ heads c.args.self.now c.args.gate
 among c = ap (λ hs. c.loop-head.yielded ++ hs) (sym c.in-Some.ensures.steps) ∙ c.loop-head.invariant.all
 
