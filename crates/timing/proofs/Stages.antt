@@ -10,7 +10,7 @@ use Rattle.timing.specs.Arcs.{nowhere, Within, Hop, Walk, hop, more, Run, alone,
 use Rattle.timing.specs.Lowered.{Lowerable, Lowered, Raised, Seeded}
 use Rattle.timing.specs.Marks.{undone}
 use Rattle.timing.proofs.Counting.{bit, count_some, count_split, count_same, also, also_same, also_other, also_old, undone_less, undone_none, undone_some, host, undone_host}
-use Rattle.timing.proofs.Hops.{hop_inner, hop_count, count_hop, head_inner}
+use Rattle.timing.proofs.Hops.{hop_inner, hop_count, count_hop, hop_end, head_inner, walk_end}
 use Rattle.timing.proofs.Chase.{before, loops}
 
 -- when v is done
@@ -171,8 +171,7 @@ module _ (ds : List ℕ) (arcs : List Arc) (within : Within (length ds) arcs) (c
               let b = ap (done ds times) y in
               omega arith
           | inr t ↦
-              let w = within h.place h.there in
-              let j : (0 < v) × (v < length ds) = subst (λ (g : ℕ). (0 < g) × (g < length ds)) h.enters (w.enters, w.entered) in
+              let j = hop_end (length ds) arcs within x v h in
               let a = (stage.starts v j.0 j.1).most x h t.1 in
               let b = grows v in
               omega arith
@@ -276,24 +275,14 @@ begun ds arcs some within counts times ready all s none = record {
 
 run_end : (ds : List ℕ) (arcs : List Arc) → Within (length ds) arcs → (u v : ℕ) → Run ds arcs u v → (0 < v) × (v < length ds)
 run_end ds arcs within u v (alone i l) = (i, l)
-run_end ds arcs within u v (on r h) =
-    let i = within h.place h.there in
-    subst (λ (g : ℕ). (0 < g) × (g < length ds)) h.enters (i.enters, i.entered)
-
-walk_end : (ds : List ℕ) (arcs : List Arc) → Within (length ds) arcs → (u v : ℕ) → Walk arcs u v → (0 < v) × (v < length ds)
-walk_end ds arcs within u v (hop h) =
-    let i = within h.place h.there in
-    subst (λ (g : ℕ). (0 < g) × (g < length ds)) h.enters (i.enters, i.entered)
-walk_end ds arcs within u v (more w h) =
-    let i = within h.place h.there in
-    subst (λ (g : ℕ). (0 < g) × (g < length ds)) h.enters (i.enters, i.entered)
+run_end ds arcs within u v (on {x = x} r h) = hop_end (length ds) arcs within x v h
 
 module _ (ds : List ℕ) (arcs : List Arc) (within : Within (length ds) arcs) (counts times ready : List ℕ) (period left : ℕ) (taken : ℕ → Bool)
     (stage : Stage ds arcs counts times ready period left taken) where
   all_taken : left ≡ 0 → NoLoop arcs × Longest ds arcs period
   all_taken z =
       let every : (k : ℕ) → k < length ds → taken k ≡ true = undone_none taken (length ds) (sym stage.lefts ∙ z) in (
-        (λ v w. let i = walk_end ds arcs within v v w in stage.clear v i.0 i.1 (every v i.1) w),
+        (λ v w. let i = walk_end (length ds) arcs within v v w in stage.clear v i.0 i.1 (every v i.1) w),
         record {
           most = λ u v r.
               let i = run_end ds arcs within u v r in
