@@ -1,7 +1,7 @@
 -- Grouping the arcs by the gate that they leave, and going over one gate's arcs, last first.
 use Rattle.std.proofs.lemmas.Grind.{common_steps}
-use Rattle.std.proofs.Common.{◌≡◌, ℕ, zero, suc, ◌+◌, ◌<◌, ◌≤◌, eqb, List, [], ◌∷◌, ◌++◌, length, get_or, take, replicate, Some, None, count_by, Option, sym, refl, ap, ◌∙◌, add-one, subst, inl, inr, arith}
-use Rattle.std.proofs.lemmas.List.{take_all}
+use Rattle.std.proofs.Common.{◌≡◌, ℕ, zero, suc, ◌+◌, ◌<◌, ◌≤◌, eqb, List, [], ◌∷◌, ◌++◌, length, get_or, take, replicate, Some, None, count_by, Option, sym, refl, ap, ◌∙◌, add-one, append_assoc, subst, inl, inr, arith}
+use Rattle.std.proofs.lemmas.List.{take_all, append-nil}
 use Rattle.std.proofs.lemmas.List.Sums.{sum_by-cons, sum_by-append, sum_by_push}
 use Rattle.std.proofs.lemmas.Bool.{cases_eq, eq-eqb, ne_eqb}
 use Rattle.timing.specs.declared.Arc.{Arc}
@@ -55,20 +55,27 @@ entered_same hs x v e = let a = sum_by_push (λ h. bit (eqb h v)) hs x in let b 
 pub entered_other : (hs : List ℕ) (x v : ℕ) → (v ≡ x → ⊥) → entered (hs ++ x ∷ []) v ≡ entered hs v
 entered_other hs x v f = let a = sum_by_push (λ h. bit (eqb h v)) hs x in let b = ap bit (ne_eqb x v (λ e. f (sym e))) in omega arith
 
--- ---- a head among the others
-module _ (arcs : List Arc) (u : ℕ) (hs : List ℕ) (x : ℕ) (rest : List ℕ) (all : hs ++ x ∷ rest ≡ heads arcs u) where
-  -- it stands less often before itself than in all
-  pub among : entered hs x < count_by (between u x) arcs
-  among =
-      let a = entered_all arcs u x in
-      let b = ap (λ (xs : List ℕ). entered xs x) all in
-      let d = sum_by-append (λ h. bit (eqb h x)) hs (x ∷ rest) in
-      let e = sum_by-cons (λ h. bit (eqb h x)) x rest in
-      let f = ap bit (eq-eqb x x refl) in
-      omega arith
+-- ---- going over the heads: those before, and those that are left
+module _ (arcs : List Arc) (u : ℕ) (hs left : List ℕ) (all : hs ++ left ≡ heads arcs u) where
+  pub entered_end : left ≡ [] → (v : ℕ) → entered hs v ≡ count_by (between u v) arcs
+  entered_end e v = ap (λ (xs : List ℕ). entered xs v) (sym (append-nil hs) ∙ ap (λ xs. hs ++ xs) (sym e) ∙ all) ∙ entered_all arcs u v
 
-  pub among_inner : (n : ℕ) → Within n arcs → (0 < x) × (x < n)
-  among_inner n within = head_inner n arcs within u x (let a = among in omega arith)
+  module _ (x : ℕ) (rest : List ℕ) (is : left ≡ x ∷ rest) where
+    pub heads_more : (hs ++ x ∷ []) ++ rest ≡ heads arcs u
+    heads_more = append_assoc hs (x ∷ []) rest ∙ ap (λ xs. hs ++ xs) (sym is) ∙ all
+
+    -- a head stands less often before itself than in all
+    pub among : entered hs x < count_by (between u x) arcs
+    among =
+        let a = entered_all arcs u x in
+        let b = ap (λ (xs : List ℕ). entered xs x) (ap (λ xs. hs ++ xs) (sym is) ∙ all) in
+        let d = sum_by-append (λ h. bit (eqb h x)) hs (x ∷ rest) in
+        let e = sum_by-cons (λ h. bit (eqb h x)) x rest in
+        let f = ap bit (eq-eqb x x refl) in
+        omega arith
+
+    pub inner : (n : ℕ) → Within n arcs → (0 < x) × (x < n)
+    inner n within = head_inner n arcs within u x (let a = among in omega arith)
 
 -- ---- one step along a group
 module _ (arcs : List Arc) (last earlier : List (Option ℕ)) (groups : Grouped arcs (length arcs) last earlier) (u : ℕ) where

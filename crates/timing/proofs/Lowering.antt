@@ -9,23 +9,24 @@ use Rattle.timing.specs.declared.Arc.{Arc}
 use Rattle.timing.specs.Arcs.{Within}
 use Rattle.timing.specs.Groups.{heads, entered}
 use Rattle.timing.specs.Lowered.{Lowerable, LoweredBy}
-use Rattle.timing.proofs.Grouping.{entered_same, entered_other, among, among_inner}
+use Rattle.timing.proofs.Grouping as groups
+use Rattle.timing.proofs.Grouping.{entered_same, entered_other}
 use Rattle.timing.proofs.Members.{in_left, in_last, in_push, different_push}
 
 pub lowered_as : (c d : ℕ → ℕ) (n : ℕ) (old new before after : List ℕ) → ((v : ℕ) → c v ≡ d v) → LoweredBy c n old new before after → LoweredBy d n old new before after
 lowered_as c d n old new before after e l = record { less = λ v h. let a = e v in let b = l.less v h in omega arith; different = l.different; kept = l.kept; fresh = l.fresh; found = l.found }
 
-module _ (arcs : List Arc) (n u : ℕ) (within : Within n arcs) (old before : List ℕ) (low : Lowerable arcs n u old before) (hs : List ℕ) (x : ℕ) (rest : List ℕ) (all : hs ++ x ∷ rest ≡ heads arcs u)
+module _ (arcs : List Arc) (n u : ℕ) (within : Within n arcs) (old before : List ℕ) (low : Lowerable arcs n u old before) (hs left : List ℕ) (all : hs ++ left ≡ heads arcs u) (x : ℕ) (rest : List ℕ) (is : left ≡ x ∷ rest)
     (new after : List ℕ) (l : LoweredBy (entered hs) n old new before after) where
   abbrev lowered : List ℕ
   lowered = set new x (get_or new x 0 - 1)
 
   abbrev inner : (0 < x) × (x < n)
-  inner = among_inner arcs u hs x rest all n within
+  inner = groups.inner arcs u hs left all x rest is n within
 
   -- the arc has been counted
   pub counted : 1 ≤ get_or new x 0
-  counted = let a = among arcs u hs x rest all in let d = low.covers x inner.0 inner.1 in let f = l.less x inner.1 in omega arith
+  counted = let a = groups.among arcs u hs left all x rest is in let d = low.covers x inner.0 inner.1 in let f = l.less x inner.1 in omega arith
 
   module _ (long : n ≤ length new) where
     same : get_or lowered x 0 ≡ get_or new x 0 - 1
