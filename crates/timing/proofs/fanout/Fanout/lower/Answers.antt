@@ -1,4 +1,4 @@
-use Rattle.std.proofs.Common.{ℕ, ◌<◌, length, length-set, ◌∙◌, arith}
+use Rattle.std.proofs.Common.{◌<◌, length-set, ◌∙◌, arith}
 use Rattle.timing.proofs.Grouping as groups
 use Rattle.timing.proofs.Lowering as lemma
 use Rattle.timing.proofs.Members.{pushed}

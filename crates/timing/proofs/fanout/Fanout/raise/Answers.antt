@@ -1,4 +1,4 @@
-use Rattle.std.proofs.Common.{ℕ, length-set, ◌∙◌, arith}
+use Rattle.std.proofs.Common.{length-set, ◌∙◌, arith}
 use Rattle.timing.proofs.Grouping as groups
 use Rattle.timing.proofs.Raising as lemma
 use Rattle.timing.proofs.fanout.Fanout.raise.Goals as goal
