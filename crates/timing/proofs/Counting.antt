@@ -21,22 +21,11 @@ count_some p (x ∷ xs) d h = elim (cases_Bool (p x)) [
 
 pub count_split : {X : Type 0} (p q r : X → Bool) → ((x : X) → bit (p x) ≡ bit (q x) + bit (r x)) → (xs : List X) → count_by p xs ≡ count_by q xs + count_by r xs
 count_split p q r h [] = refl
-count_split p q r h (x ∷ xs) =
-    let a = sum_by-cons (λ y. cond (p y) 1 0) x xs in
-    let b = sum_by-cons (λ y. cond (q y) 1 0) x xs in
-    let d = sum_by-cons (λ y. cond (r y) 1 0) x xs in
-    let e = h x in
-    let f = count_split p q r h xs in
-    omega arith
+count_split p q r h (x ∷ xs) = grind (arith, common_steps, h x, count_split p q r h xs)
 
 pub count_same : {X : Type 0} (p q : X → Bool) (xs : List X) (d : X) → ((k : ℕ) → k < length xs → p (get_or xs k d) ≡ q (get_or xs k d)) → count_by p xs ≡ count_by q xs
 count_same p q [] d h = refl
-count_same p q (x ∷ xs) d h =
-    let a = sum_by-cons (λ y. cond (p y) 1 0) x xs in
-    let b = sum_by-cons (λ y. cond (q y) 1 0) x xs in
-    let e = ap bit (h 0 (omega arith)) in
-    let f = count_same p q xs d (λ k l. h (suc k) (omega arith)) in
-    omega arith
+count_same p q (x ∷ xs) d h = grind (arith, common_steps, h 0, count_same p q xs d (λ k l. h (suc k) (omega arith)))
 
 -- ---- the numbers below n that fail the test
 abbrev pub also : ℕ → (ℕ → Bool) → ℕ → Bool
@@ -53,24 +42,11 @@ also_old u t g e = grind (arith, common_steps)
 
 pub undone_same : (t s : ℕ → Bool) (n : ℕ) → ((k : ℕ) → k < n → t k ≡ s k) → undone t n ≡ undone s n
 undone_same t s zero h = refl
-undone_same t s (suc n) h =
-    let a = ap gap (h n (omega arith)) in
-    let b : undone t n ≡ undone s n = undone_same t s n (λ k l. h k (omega arith)) in
-    omega arith
+undone_same t s (suc n) h = grind (arith, h n (omega arith), undone_same t s n (λ k l. h k (omega arith)))
 
 pub undone_less : (t : ℕ → Bool) (u n : ℕ) → u < n → t u ≡ false → undone t n ≡ undone (also u t) n + 1
 undone_less t u zero h e = absurd (omega arith)
-undone_less t u (suc n) h e = elim (cases_eq n u) [
-  | inl q ↦
-      let a = ap gap (also_same u t n q) in
-      let b = ap gap (ap t q ∙ e) in
-      let s = undone_same t (also u t) n (λ k l. sym (also_other u t k (omega arith))) in
-      omega arith
-  | inr f ↦
-      let a = ap gap (also_other u t n f) in
-      let s = undone_less t u n (omega arith) e in
-      omega arith
-]
+undone_less t u (suc n) h e = grind (arith, common_steps, undone_same t (also u t) n, undone_less t u n)
 
 fail_zero : (b : Bool) → gap b ≤ 0 → b ≡ true
 fail_zero true h = refl
@@ -78,10 +54,7 @@ fail_zero false h = absurd (omega arith)
 
 pub undone_none : (t : ℕ → Bool) (n : ℕ) → undone t n ≡ 0 → (k : ℕ) → k < n → t k ≡ true
 undone_none t zero z k h = absurd (omega arith)
-undone_none t (suc n) z k h = elim (cases_eq k n) [
-  | inl q ↦ ap t q ∙ fail_zero (t n) (omega arith)
-  | inr f ↦ undone_none t n (omega arith) k (omega arith)
-]
+undone_none t (suc n) z k h = grind (arith, common_steps, undone_none t n)
 
 pub undone_some : (t : ℕ → Bool) (n : ℕ) → 0 < undone t n → (k : ℕ) × (k < n) × (t k ≡ false)
 undone_some t zero h = absurd (omega arith)
