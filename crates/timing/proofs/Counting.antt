@@ -48,10 +48,6 @@ pub undone_less : (t : ℕ → Bool) (u n : ℕ) → u < n → t u ≡ false →
 undone_less t u zero h e = absurd (omega arith)
 undone_less t u (suc n) h e = grind (arith, common_steps, undone_same t (also u t) n, undone_less t u n)
 
-fail_zero : (b : Bool) → gap b ≤ 0 → b ≡ true
-fail_zero true h = refl
-fail_zero false h = absurd (omega arith)
-
 pub undone_none : (t : ℕ → Bool) (n : ℕ) → undone t n ≡ 0 → (k : ℕ) → k < n → t k ≡ true
 undone_none t zero z k h = absurd (omega arith)
 undone_none t (suc n) z k h = grind (arith, common_steps, undone_none t n)
