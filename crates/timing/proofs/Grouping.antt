@@ -45,24 +45,22 @@ entered_front arcs u v zero h = refl
 entered_front arcs u v (suc m) h = rw (← add-one m) (entered_more arcs u v m (omega arith) (entered_front arcs u v m (omega arith)))
 
 pub entered_all : (arcs : List Arc) (u v : ℕ) → entered (heads arcs u) v ≡ count_by (between u v) arcs
-entered_all arcs u v =
-    let t = take_all (length arcs) arcs (omega arith) in
-    ap (λ (xs : List Arc). entered (heads xs u) v) (sym t) ∙ entered_front arcs u v (length arcs) (omega arith) ∙ ap (count_by (between u v)) t
+entered_all arcs u v = grind (arith, take_all (length arcs) arcs, entered_front arcs u v (length arcs))
 
 pub entered_same : (hs : List ℕ) (x v : ℕ) → v ≡ x → entered (hs ++ x ∷ []) v ≡ entered hs v + 1
-entered_same hs x v e = let a = sum_by_push (λ h. bit (eqb h v)) hs x in let b = ap bit (eq-eqb x v (sym e)) in omega arith
+entered_same hs x v e = grind (arith, common_steps)
 
 pub entered_other : (hs : List ℕ) (x v : ℕ) → (v ≡ x → ⊥) → entered (hs ++ x ∷ []) v ≡ entered hs v
-entered_other hs x v f = let a = sum_by_push (λ h. bit (eqb h v)) hs x in let b = ap bit (ne_eqb x v (λ e. f (sym e))) in omega arith
+entered_other hs x v f = grind (arith, common_steps)
 
 -- ---- going over the heads: those before, and those that are left
 module _ (arcs : List Arc) (u : ℕ) (hs left : List ℕ) (all : hs ++ left ≡ heads arcs u) where
   pub entered_end : left ≡ [] → (v : ℕ) → entered hs v ≡ count_by (between u v) arcs
-  entered_end e v = ap (λ (xs : List ℕ). entered xs v) (sym (append-nil hs) ∙ ap (λ xs. hs ++ xs) (sym e) ∙ all) ∙ entered_all arcs u v
+  entered_end e v = grind (arith, append-nil, entered_all arcs u v)
 
   module _ (x : ℕ) (rest : List ℕ) (is : left ≡ x ∷ rest) where
     pub heads_more : (hs ++ x ∷ []) ++ rest ≡ heads arcs u
-    heads_more = append_assoc hs (x ∷ []) rest ∙ ap (λ xs. hs ++ xs) (sym is) ∙ all
+    heads_more = grind (arith, append_assoc)
 
     -- a head stands less often before itself than in all
     pub among : entered hs x < count_by (between u x) arcs

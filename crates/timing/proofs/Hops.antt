@@ -14,10 +14,7 @@ pub hop_count : (arcs : List Arc) (u v : ℕ) → Hop arcs u v → 0 < count_by 
 hop_count arcs u v h = grind (arith, common_steps)
 
 pub count_hop : (arcs : List Arc) (u v : ℕ) → 0 < count_by (between u v) arcs → Hop arcs u v
-count_hop arcs u v p =
-    let m = count_some (between u v) arcs nowhere p in
-    let b = and_parts _ _ m.2 in
-    record { place = m.0; there = m.1; leaves = eqb-true _ _ b.0; enters = eqb-true _ _ b.1 }
+count_hop arcs u v p = grind (arith, common_steps, count_some (between u v) arcs nowhere p)
 
 -- what an arc enters is a gate, and not the host
 pub hop_end : (n : ℕ) (arcs : List Arc) → Within n arcs → (u v : ℕ) → Hop arcs u v → (0 < v) × (v < n)

@@ -14,7 +14,7 @@ use Rattle.timing.proofs.Grouping.{entered_same, entered_other}
 use Rattle.timing.proofs.Members.{in_left, in_last, in_push, different_push}
 
 pub lowered_as : (c d : ℕ → ℕ) (n : ℕ) (old new before after : List ℕ) → ((v : ℕ) → c v ≡ d v) → LoweredBy c n old new before after → LoweredBy d n old new before after
-lowered_as c d n old new before after e l = record { less = λ v h. let a = e v in let b = l.less v h in omega arith; different = l.different; kept = l.kept; fresh = l.fresh; found = l.found }
+lowered_as c d n old new before after e l = grind (arith, e)
 
 module _ (arcs : List Arc) (n u : ℕ) (within : Within n arcs) (old before : List ℕ) (low : Lowerable arcs n u old before) (hs left : List ℕ) (all : hs ++ left ≡ heads arcs u) (x : ℕ) (rest : List ℕ) (is : left ≡ x ∷ rest)
     (new after : List ℕ) (l : LoweredBy (entered hs) n old new before after) where
@@ -53,7 +53,7 @@ module _ (arcs : List Arc) (n u : ℕ) (within : Within n arcs) (old before : Li
     below v (inr m) = elim (l.fresh v m) [ inl b ↦ (low.zero v b).0 | inr t ↦ t.0 ]
 
     pub room_for : length after < n
-    room_for = let p = pigeons n (x ∷ after) (not_ready, l.different) below in omega arith
+    room_for = grind (arith, pigeons n (x ∷ after) (not_ready, l.different) below)
 
     pub ready_now : get_or lowered x 0 ≡ 0 → LoweredBy (entered (hs ++ x ∷ [])) n old lowered before (after ++ x ∷ [])
     ready_now z = record {

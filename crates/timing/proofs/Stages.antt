@@ -131,28 +131,13 @@ module _ (ds : List ℕ) (arcs : List Arc) (within : Within (length ds) arcs) (c
     then_was v e = elim (cases_eq v u) [ inl s ↦ inl s | inr f ↦ inr (f, sym (also_other u taken v f) ∙ e) ]
 
     queued_then : (v : ℕ) → v ∈ ready → (0 < v) × (v < length ds) × (then v ≡ false) × (get_or lowered v 0 ≡ 0)
-    queued_then v m = elim (low.fresh v m) [
-      | inl b ↦
-          let a = stage.queued v (inr b) in
-          (a.0, a.1, also_other u taken v (apart v b) ∙ a.2, (let l = less v a.1 in let z = a.3 in omega arith))
-      | inr t ↦
-          let f : v ≡ u → ⊥ = λ e. let c : get_or counts v 0 ≡ get_or counts u 0 = ap (λ (g : ℕ). get_or counts g 0) e in let z = q.3 in let p = t.1 in omega arith in
-          let inside = head_inner (length ds) arcs within u v (let a = low.less v t.0 in let p = t.1 in let z = t.2 in omega arith) in
-          let free : taken v ≡ false = elim (cases_Bool (taken v)) [
-            | inl e ↦ absurd (let z = stage.closed v t.3 inside.1 e in let p = t.1 in omega arith)
-            | inr e ↦ e
-          ] in
-          (t.3, inside.1, also_other u taken v f ∙ free, t.2)
-    ]
+    queued_then v m = grind (arith, low.fresh v m, stage.queued v, stage.closed v, apart v, low.less v, head_inner (length ds) arcs within u v, q.3, also_other u taken v)
 
     waiting_then : (v : ℕ) → 0 < v → v < length ds → then v ≡ false → get_or lowered v 0 ≡ 0 → v ∈ ready
     waiting_then v o l e z = grind (arith, common_steps)
 
     counted_out : (v : ℕ) → 0 < v → v < length ds → then v ≡ true → get_or counts v 0 ≡ 0
-    counted_out v o l e = elim (then_was v e) [
-      | inl s ↦ ap (λ (g : ℕ). get_or counts g 0) s ∙ q.3
-      | inr t ↦ stage.closed v o l t.1
-    ]
+    counted_out v o l e = grind (arith, then_was v e, stage.closed v o l, q.3)
 
     -- the times of the taken gates stay
     stays : (v : ℕ) → 0 < v → v < length ds → then v ≡ true → get_or later v 0 ≡ get_or times v 0
