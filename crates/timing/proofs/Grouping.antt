@@ -1,13 +1,11 @@
 -- Grouping the arcs by the gate that they leave, and going over one gate's arcs, last first.
 use Rattle.std.proofs.lemmas.Grind.{common_steps}
-use Rattle.std.proofs.Common.{◌≡◌, ℕ, zero, suc, ◌+◌, ◌<◌, ◌≤◌, eqb, List, [], ◌∷◌, ◌++◌, length, get_or, take, replicate, Some, None, count_by, Option, sym, refl, ap, ◌∙◌, add-one, append_assoc, subst, inl, inr, arith}
+use Rattle.std.proofs.Common.{◌≡◌, ℕ, zero, suc, ◌+◌, ◌<◌, ◌≤◌, List, [], ◌∷◌, ◌++◌, length, get_or, take, replicate, Some, None, count_by, Option, sym, refl, ap, ◌∙◌, add-one, append_assoc, subst, inl, inr, arith}
 use Rattle.std.proofs.lemmas.List.{take_all, append-nil}
-use Rattle.std.proofs.lemmas.List.Sums.{sum_by-cons, sum_by-append, sum_by_push}
-use Rattle.std.proofs.lemmas.Bool.{cases_eq, eq-eqb, ne_eqb}
+use Rattle.std.proofs.lemmas.Bool.{cases_eq}
 use Rattle.timing.specs.declared.Arc.{Arc}
 use Rattle.timing.specs.Arcs.{nowhere, Within, between}
 use Rattle.timing.specs.Groups.{Last, Grouped, Leaves, past, heads, entered}
-use Rattle.timing.proofs.Counting.{bit}
 use Rattle.timing.proofs.Hops.{head_inner}
 
 pub grouped_none : (arcs : List Arc) (m n : ℕ) → m ≡ 128 → n ≡ 512 → Grouped arcs 0 (replicate m None) (replicate n None)
@@ -64,28 +62,22 @@ module _ (arcs : List Arc) (u : ℕ) (hs left : List ℕ) (all : hs ++ left ≡ 
 
     -- a head stands less often before itself than in all
     pub among : entered hs x < count_by (between u x) arcs
-    among =
-        let a = entered_all arcs u x in
-        let b = ap (λ (xs : List ℕ). entered xs x) (ap (λ xs. hs ++ xs) (sym is) ∙ all) in
-        let d = sum_by-append (λ h. bit (eqb h x)) hs (x ∷ rest) in
-        let e = sum_by-cons (λ h. bit (eqb h x)) x rest in
-        let f = ap bit (eq-eqb x x refl) in
-        omega arith
+    among = grind (arith, common_steps, entered_all arcs u x, all, is)
 
     pub inner : (n : ℕ) → Within n arcs → (0 < x) × (x < n)
-    inner n within = head_inner n arcs within u x (let a = among in omega arith)
+    inner n within = grind (arith, head_inner n arcs within u x, among)
 
 -- ---- one step along a group
 module _ (arcs : List Arc) (last earlier : List (Option ℕ)) (groups : Grouped arcs (length arcs) last earlier) (u : ℕ) where
   pub heads_first : u < 128 → heads (take (past (get_or last u None)) arcs) u ≡ heads arcs u
-  heads_first h = sym (skipped arcs u (length arcs) _ (omega arith) (groups.ends u h)) ∙ ap (λ (xs : List Arc). heads xs u) (take_all (length arcs) arcs (omega arith))
+  heads_first h = grind (arith, skipped arcs u (length arcs), groups.ends u h, take_all (length arcs) arcs)
 
   module _ (i : ℕ) (at : Option ℕ) (is : at ≡ Some i) (here : Leaves arcs u at) where
     at_hand : (i < length arcs) × ((get_or arcs i nowhere).from ≡ u)
     at_hand = subst (Leaves arcs u) is here
 
     before_it : Last arcs u i (get_or earlier i None)
-    before_it = subst (λ (g : ℕ). Last arcs g i (get_or earlier i None)) at_hand.1 (groups.steps i at_hand.0)
+    before_it = grind (arith, groups.steps i, at_hand)
 
     pub heads_next : heads (take (past at) arcs) u ≡ (get_or arcs i nowhere).to ∷ heads (take (past (get_or earlier i None)) arcs) u
     heads_next =

@@ -1,7 +1,6 @@
 -- Arcs from one gate to another, and how many there are.
 use Rattle.std.proofs.lemmas.Grind.{common_steps}
 use Rattle.std.proofs.Common.{ℕ, ◌<◌, List, count_by, arith}
-use Rattle.std.proofs.lemmas.Bool.{eqb-true, and_parts}
 use Rattle.timing.specs.declared.Arc.{Arc}
 use Rattle.timing.specs.Arcs.{nowhere, Within, Hop, Walk, hop, more, between}
 use Rattle.timing.proofs.Counting.{count_some}

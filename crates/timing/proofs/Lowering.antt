@@ -26,7 +26,7 @@ module _ (arcs : List Arc) (n u : ℕ) (within : Within n arcs) (old before : Li
 
   -- the arc has been counted
   pub counted : 1 ≤ get_or new x 0
-  counted = let a = groups.among arcs u hs left all x rest is in let d = low.covers x inner.0 inner.1 in let f = l.less x inner.1 in omega arith
+  counted = grind (arith, groups.among arcs u hs left all x rest is, low.covers x, l.less x, inner)
 
   module _ (long : n ≤ length new) where
     same : get_or lowered x 0 ≡ get_or new x 0 - 1

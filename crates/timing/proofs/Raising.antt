@@ -1,6 +1,6 @@
 -- One head more that waits for the time.
 use Rattle.std.proofs.lemmas.Grind.{common_steps}
-use Rattle.std.proofs.Common.{◌≡◌, ℕ, ◌<◌, max, List, [], ◌∷◌, ◌++◌, length, get_or, set, ◌∙◌, arith}
+use Rattle.std.proofs.Common.{◌≡◌, ℕ, ◌<◌, max, List, [], ◌∷◌, ◌++◌, length, get_or, set, arith}
 use Rattle.timing.specs.Groups.{entered}
 use Rattle.timing.specs.Lowered.{RaisedBy}
 

@@ -1,7 +1,7 @@
 -- The gates that are taken in order, and what is known when some are.
 use Rattle.std.proofs.lemmas.Grind.{common_steps}
 use Rattle.std.proofs.Common.{◌≡◌, ℕ, zero, suc, ◌+◌, ◌-◌, ◌*◌, ◌<◌, ◌≤◌, max, Bool, true, false, not, ◌&&◌, eqb, ◌⊎◌, List, [], ◌∷◌, length, get_or, count_by, sym, refl, ap, ◌∙◌, subst, inl, inr, arith}
-use Rattle.std.proofs.lemmas.Bool.{cases_eq, cases_lt, cases_Bool, ne_eqb, eqb-true, and_parts, not-true, both_ways}
+use Rattle.std.proofs.lemmas.Bool.{cases_eq, cases_lt, ne_eqb, eqb-true, and_parts, not-true, both_ways}
 use Rattle.std.specs.Bool.{then_some}
 use Rattle.model.specs.Circuit.{◌∈◌}
 use Rattle.model.specs.Limits.{Different}
@@ -114,10 +114,7 @@ module _ (ds : List ℕ) (arcs : List Arc) (within : Within (length ds) arcs) (c
       stage.clear x t.0 t.1 t.2 (before k w)
 
   pub start_most : get_or times u 0 ≤ period
-  start_most = elim begins.met [
-    | inl z ↦ omega arith
-    | inr m ↦ let t = hop_taken m.0 m.1 in let a = stage.most m.0 t.0 t.1 t.2 in let d = m.3 in omega arith
-  ]
+  start_most = grind (arith, begins.met, hop_taken, stage.most)
 
   module _ (slow : get_or ds u 0 ≤ 65535) (next : ℕ) (is : next ≡ max period time)
       (later : List ℕ) (rise : Raised arcs u time times later) (m : ℕ) (wide : length ds ≤ m) (lowered ready : List ℕ) (low : Lowered arcs m u counts lowered rest ready) where
@@ -141,7 +138,7 @@ module _ (ds : List ℕ) (arcs : List Arc) (within : Within (length ds) arcs) (c
 
     -- the times of the taken gates stay
     stays : (v : ℕ) → 0 < v → v < length ds → then v ≡ true → get_or later v 0 ≡ get_or times v 0
-    stays v o l e = rise.kept v (let a = low.less v (omega arith) in let z = counted_out v o l e in omega arith)
+    stays v o l e = grind (arith, rise.kept v, low.less v, counted_out v o l e)
 
     grows : (v : ℕ) → get_or times v 0 ≤ get_or later v 0
     grows v = grind (arith, common_steps)
