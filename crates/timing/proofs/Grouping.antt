@@ -1,33 +1,18 @@
 -- Grouping the arcs by the gate that they leave, and going over one gate's arcs, last first.
 use Rattle.std.proofs.lemmas.Grind.{common_steps}
-use Rattle.std.proofs.Common.{◌≡◌, ℕ, zero, suc, ◌+◌, ◌<◌, ◌≤◌, cond, eqb, List, [], ◌∷◌, ◌++◌, length, get_or, take, set, filter, replicate, Some, None, count_by, Option, sym, refl, ap, ◌∙◌, subst, inl, inr, arith}
-use Rattle.std.proofs.lemmas.List.{take_all}
-use Rattle.std.proofs.lemmas.List.Sums.{sum_by-cons, sum_by-append, count_by_more_yes, count_by_more_no}
-use Rattle.std.proofs.lemmas.Bool.{cases_eq, eq-eqb, ne_eqb, and_from, and_left, and_right}
+use Rattle.std.proofs.Common.{◌≡◌, ℕ, zero, suc, ◌+◌, ◌<◌, ◌≤◌, List, [], ◌∷◌, ◌++◌, length, get_or, take, replicate, Some, None, count_by, Option, sym, refl, ap, ◌∙◌, add-one, append_assoc, subst, inl, inr, arith}
+use Rattle.std.proofs.lemmas.List.{take_all, append-nil}
+use Rattle.std.proofs.lemmas.Bool.{cases_eq}
 use Rattle.timing.specs.declared.Arc.{Arc}
 use Rattle.timing.specs.Arcs.{nowhere, Within, between}
 use Rattle.timing.specs.Groups.{Last, Grouped, Leaves, past, heads, entered}
-use Rattle.timing.proofs.Counting.{bit}
 use Rattle.timing.proofs.Hops.{head_inner}
 
 pub grouped_none : (arcs : List Arc) (m n : ℕ) → m ≡ 128 → n ≡ 512 → Grouped arcs 0 (replicate m None) (replicate n None)
 grouped_none arcs m n a b = grind (arith, common_steps)
 
-module _ (arcs : List Arc) (m : ℕ) (last earlier : List (Option ℕ)) (short : m < 512) (small : (get_or arcs m nowhere).from < 128) (old : Grouped arcs m last earlier) where
-  abbrev from : ℕ
-  from = (get_or arcs m nowhere).from
-
-  abbrev before : Option ℕ
-  before = get_or last from None
-
-  pub grouped_more : Grouped arcs (m + 1) (set last from (Some m)) (set earlier m before)
-  grouped_more = grind (arith, common_steps)
-
 -- ---- the gates that the arcs from u enter
 module _ (arcs : List Arc) (u i : ℕ) (h : i < length arcs) where
-  abbrev from_u : List Arc → List Arc
-  from_u = filter (λ a. eqb a.from u)
-
   abbrev here : Arc
   here = get_or arcs i nowhere
 
@@ -38,12 +23,10 @@ module _ (arcs : List Arc) (u i : ℕ) (h : i < length arcs) where
   heads_no f = grind (arith, common_steps)
 
 heads_gap : (arcs : List Arc) (u i j : ℕ) → i ≤ j → j ≤ length arcs → ((k : ℕ) → i ≤ k → k < j → (get_or arcs k nowhere).from ≡ u → ⊥) → heads (take j arcs) u ≡ heads (take i arcs) u
-heads_gap arcs u i zero l h f = let z : 0 ≡ i = omega arith in ap (λ (k : ℕ). heads (take k arcs) u) z
+heads_gap arcs u i zero l h f = grind (arith, common_steps)
 heads_gap arcs u i (suc j) l h f = elim (cases_eq i (suc j)) [
   | inl q ↦ ap (λ (k : ℕ). heads (take k arcs) u) (sym q)
-  | inr n ↦
-      let s : suc j ≡ j + 1 = omega arith in
-      ap (λ (k : ℕ). heads (take k arcs) u) s ∙ heads_no arcs u j (omega arith) (f j (omega arith) (omega arith)) ∙ heads_gap arcs u i j (omega arith) (omega arith) (λ k a b. f k a (omega arith))
+  | inr n ↦ rw (← add-one) (heads_no arcs u j (omega arith) (f j (omega arith) (omega arith)) ∙ heads_gap arcs u i j (omega arith) (omega arith) (λ k a b. f k a (omega arith)))
 ]
 
 -- none are left out between the arcs of a group
@@ -52,66 +35,49 @@ skipped arcs u m None h l = heads_gap arcs u 0 m (omega arith) h (λ k a b. l k 
 skipped arcs u m (Some i) h l = heads_gap arcs u (suc i) m (let a = l.0 in omega arith) h (λ k a b. l.2 k (omega arith) b)
 
 -- each gate is entered by as many arcs from u as it stands among the heads
+entered_more : (arcs : List Arc) (u v m : ℕ) → m < length arcs → entered (heads (take m arcs) u) v ≡ count_by (between u v) (take m arcs) → entered (heads (take (m + 1) arcs) u) v ≡ count_by (between u v) (take (m + 1) arcs)
+entered_more arcs u v m h e = grind (arith, common_steps, heads_yes arcs u m h, heads_no arcs u m h)
+
 entered_front : (arcs : List Arc) (u v m : ℕ) → m ≤ length arcs → entered (heads (take m arcs) u) v ≡ count_by (between u v) (take m arcs)
 entered_front arcs u v zero h = refl
-entered_front arcs u v (suc m) h =
-    let s : suc m ≡ m + 1 = omega arith in
-    let old = entered_front arcs u v m (omega arith) in
-    let a = get_or arcs m nowhere in
-    ap (λ (k : ℕ). entered (heads (take k arcs) u) v) s ∙ elim (cases_eq a.from u) [
-      | inl e ↦
-          let y = ap (λ hs. entered hs v) (heads_yes arcs u m h e) in
-          let c = sum_by-cons (λ x. cond (eqb x v) 1 0) a.to (heads (take m arcs) u) in
-          elim (cases_eq a.to v) [
-            | inl t ↦ let p = count_by_more_yes (between u v) arcs m nowhere h (and_from _ _ (eq-eqb _ _ e) (eq-eqb _ _ t)) in let b = ap bit (eq-eqb a.to v t) in omega arith
-            | inr t ↦ let p = count_by_more_no (between u v) arcs m nowhere h (and_right _ _ (ne_eqb _ _ t)) in let b = ap bit (ne_eqb a.to v t) in omega arith
-          ]
-      | inr f ↦
-          let y = ap (λ hs. entered hs v) (heads_no arcs u m h f) in
-          let p = count_by_more_no (between u v) arcs m nowhere h (and_left _ _ (ne_eqb _ _ f)) in
-          omega arith
-    ] ∙ ap (λ (k : ℕ). count_by (between u v) (take k arcs)) (sym s)
+entered_front arcs u v (suc m) h = rw (← add-one m) (entered_more arcs u v m (omega arith) (entered_front arcs u v m (omega arith)))
 
 pub entered_all : (arcs : List Arc) (u v : ℕ) → entered (heads arcs u) v ≡ count_by (between u v) arcs
-entered_all arcs u v =
-    let t = take_all (length arcs) arcs (omega arith) in
-    ap (λ (xs : List Arc). entered (heads xs u) v) (sym t) ∙ entered_front arcs u v (length arcs) (omega arith) ∙ ap (count_by (between u v)) t
-
-entered_push : (hs : List ℕ) (x v : ℕ) → entered (hs ++ x ∷ []) v ≡ entered hs v + bit (eqb x v)
-entered_push hs x v = let a = sum_by-append (λ h. bit (eqb h v)) hs (x ∷ []) in let b = sum_by-cons (λ h. bit (eqb h v)) x [] in omega arith
+entered_all arcs u v = grind (arith, take_all (length arcs) arcs, entered_front arcs u v (length arcs))
 
 pub entered_same : (hs : List ℕ) (x v : ℕ) → v ≡ x → entered (hs ++ x ∷ []) v ≡ entered hs v + 1
-entered_same hs x v e = let a = entered_push hs x v in let b = ap bit (eq-eqb x v (sym e)) in omega arith
+entered_same hs x v e = grind (arith, common_steps)
 
 pub entered_other : (hs : List ℕ) (x v : ℕ) → (v ≡ x → ⊥) → entered (hs ++ x ∷ []) v ≡ entered hs v
-entered_other hs x v f = let a = entered_push hs x v in let b = ap bit (ne_eqb x v (λ e. f (sym e))) in omega arith
+entered_other hs x v f = grind (arith, common_steps)
 
--- ---- a head among the others
-module _ (arcs : List Arc) (u : ℕ) (hs : List ℕ) (x : ℕ) (rest : List ℕ) (all : hs ++ x ∷ rest ≡ heads arcs u) where
-  -- it stands less often before itself than in all
-  pub among : entered hs x < count_by (between u x) arcs
-  among =
-      let a = entered_all arcs u x in
-      let b = ap (λ (xs : List ℕ). entered xs x) all in
-      let d = sum_by-append (λ h. bit (eqb h x)) hs (x ∷ rest) in
-      let e = sum_by-cons (λ h. bit (eqb h x)) x rest in
-      let f = ap bit (eq-eqb x x refl) in
-      omega arith
+-- ---- going over the heads: those before, and those that are left
+module _ (arcs : List Arc) (u : ℕ) (hs left : List ℕ) (all : hs ++ left ≡ heads arcs u) where
+  pub entered_end : left ≡ [] → (v : ℕ) → entered hs v ≡ count_by (between u v) arcs
+  entered_end e v = grind (arith, append-nil, entered_all arcs u v)
 
-  pub among_inner : (n : ℕ) → Within n arcs → (0 < x) × (x < n)
-  among_inner n within = head_inner n arcs within u x (let a = among in omega arith)
+  module _ (x : ℕ) (rest : List ℕ) (is : left ≡ x ∷ rest) where
+    pub heads_more : (hs ++ x ∷ []) ++ rest ≡ heads arcs u
+    heads_more = grind (arith, append_assoc)
+
+    -- a head stands less often before itself than in all
+    pub among : entered hs x < count_by (between u x) arcs
+    among = grind (arith, common_steps, entered_all arcs u x, all, is)
+
+    pub inner : (n : ℕ) → Within n arcs → (0 < x) × (x < n)
+    inner n within = grind (arith, head_inner n arcs within u x, among)
 
 -- ---- one step along a group
 module _ (arcs : List Arc) (last earlier : List (Option ℕ)) (groups : Grouped arcs (length arcs) last earlier) (u : ℕ) where
   pub heads_first : u < 128 → heads (take (past (get_or last u None)) arcs) u ≡ heads arcs u
-  heads_first h = sym (skipped arcs u (length arcs) _ (omega arith) (groups.ends u h)) ∙ ap (λ (xs : List Arc). heads xs u) (take_all (length arcs) arcs (omega arith))
+  heads_first h = grind (arith, skipped arcs u (length arcs), groups.ends u h, take_all (length arcs) arcs)
 
   module _ (i : ℕ) (at : Option ℕ) (is : at ≡ Some i) (here : Leaves arcs u at) where
     at_hand : (i < length arcs) × ((get_or arcs i nowhere).from ≡ u)
     at_hand = subst (Leaves arcs u) is here
 
     before_it : Last arcs u i (get_or earlier i None)
-    before_it = subst (λ (g : ℕ). Last arcs g i (get_or earlier i None)) at_hand.1 (groups.steps i at_hand.0)
+    before_it = grind (arith, groups.steps i, at_hand)
 
     pub heads_next : heads (take (past at) arcs) u ≡ (get_or arcs i nowhere).to ∷ heads (take (past (get_or earlier i None)) arcs) u
     heads_next =

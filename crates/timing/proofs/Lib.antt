@@ -1,9 +1,9 @@
 pub mod Members
 pub mod Counting
 pub mod Chase
+pub mod Hops
 pub mod Marking
 pub mod Blank
-pub mod Hops
 pub mod Grouping
 pub mod Lowering
 pub mod Raising

@@ -4,32 +4,29 @@ use Rattle.std.proofs.Common.{◌≡◌, ℕ, ◌+◌, ◌-◌, ◌<◌, ◌≤�
 use Rattle.std.proofs.lemmas.List.{get_or-set_same, get_or-set_other}
 use Rattle.std.proofs.lemmas.Bool.{cases_eq}
 use Rattle.model.specs.Circuit.{◌∈◌}
-use Rattle.model.specs.Limits.{Different}
 use Rattle.model.proofs.Pigeons.{pigeons}
 use Rattle.timing.specs.declared.Arc.{Arc}
 use Rattle.timing.specs.Arcs.{Within}
 use Rattle.timing.specs.Groups.{heads, entered}
 use Rattle.timing.specs.Lowered.{Lowerable, LoweredBy}
-use Rattle.timing.proofs.Grouping.{entered_same, entered_other, among, among_inner}
+use Rattle.timing.proofs.Grouping as groups
+use Rattle.timing.proofs.Grouping.{entered_same, entered_other}
 use Rattle.timing.proofs.Members.{in_left, in_last, in_push, different_push}
 
-pub lowered_none : (n : ℕ) (old before : List ℕ) → Different before → LoweredBy (entered []) n old old before before
-lowered_none n old before d = grind (arith, common_steps)
-
 pub lowered_as : (c d : ℕ → ℕ) (n : ℕ) (old new before after : List ℕ) → ((v : ℕ) → c v ≡ d v) → LoweredBy c n old new before after → LoweredBy d n old new before after
-lowered_as c d n old new before after e l = record { less = λ v h. let a = e v in let b = l.less v h in omega arith; different = l.different; kept = l.kept; fresh = l.fresh; found = l.found }
+lowered_as c d n old new before after e l = grind (arith, e)
 
-module _ (arcs : List Arc) (n u : ℕ) (within : Within n arcs) (old before : List ℕ) (low : Lowerable arcs n u old before) (hs : List ℕ) (x : ℕ) (rest : List ℕ) (all : hs ++ x ∷ rest ≡ heads arcs u)
+module _ (arcs : List Arc) (n u : ℕ) (within : Within n arcs) (old before : List ℕ) (low : Lowerable arcs n u old before) (hs left : List ℕ) (all : hs ++ left ≡ heads arcs u) (x : ℕ) (rest : List ℕ) (is : left ≡ x ∷ rest)
     (new after : List ℕ) (l : LoweredBy (entered hs) n old new before after) where
   abbrev lowered : List ℕ
   lowered = set new x (get_or new x 0 - 1)
 
   abbrev inner : (0 < x) × (x < n)
-  inner = among_inner arcs u hs x rest all n within
+  inner = groups.inner arcs u hs left all x rest is n within
 
   -- the arc has been counted
   pub counted : 1 ≤ get_or new x 0
-  counted = let a = among arcs u hs x rest all in let d = low.covers x inner.0 inner.1 in let f = l.less x inner.1 in omega arith
+  counted = grind (arith, groups.among arcs u hs left all x rest is, low.covers x, l.less x, inner)
 
   module _ (long : n ≤ length new) where
     same : get_or lowered x 0 ≡ get_or new x 0 - 1
@@ -39,16 +36,7 @@ module _ (arcs : List Arc) (n u : ℕ) (within : Within n arcs) (old before : Li
     other v f = get_or-set_other new x v (get_or new x 0 - 1) 0 f
 
     less_then : (v : ℕ) → v < n → get_or lowered v 0 + entered (hs ++ x ∷ []) v ≡ get_or old v 0
-    less_then v h =
-        let b = l.less v h in
-        elim (cases_eq v x) [
-          | inl f ↦
-              let a = entered_same hs x v f in
-              let s : get_or lowered v 0 ≡ get_or new v 0 - 1 = subst (λ (w : ℕ). get_or lowered w 0 ≡ get_or new w 0 - 1) (sym f) same in
-              let c : 1 ≤ get_or new v 0 = subst (λ (w : ℕ). 1 ≤ get_or new w 0) (sym f) counted in
-              omega arith
-          | inr f ↦ let a = entered_other hs x v f in let o = other v f in omega arith
-        ]
+    less_then v h = grind (arith, common_steps, entered_same hs x v, entered_other hs x v, l.less v h, same, other v, counted)
 
     -- a gate that is ready keeps the count 0
     fresh_then : (v : ℕ) → v ∈ after → (v ∈ before) ⊎ ((v < n) × (0 < get_or old v 0) × (get_or lowered v 0 ≡ 0) × (0 < v))
@@ -58,19 +46,14 @@ module _ (arcs : List Arc) (n u : ℕ) (within : Within n arcs) (old before : Li
     still nz = grind (arith, common_steps)
 
     not_ready : x ∈ after → ⊥
-    not_ready m =
-        let c = counted in
-        elim (l.fresh x m) [
-          | inl b ↦ let z = (low.zero x b).1 in let f = l.less x inner.1 in omega arith
-          | inr t ↦ let z = t.2 in omega arith
-        ]
+    not_ready m = grind (arith, common_steps, l.fresh x m, low.zero x, l.less x inner.1, counted)
 
     below : (v : ℕ) → v ∈ (x ∷ after) → v < n
     below v (inl q) = subst (λ (w : ℕ). w < n) (sym q) inner.1
     below v (inr m) = elim (l.fresh v m) [ inl b ↦ (low.zero v b).0 | inr t ↦ t.0 ]
 
     pub room_for : length after < n
-    room_for = let p = pigeons n (x ∷ after) (not_ready, l.different) below in omega arith
+    room_for = grind (arith, pigeons n (x ∷ after) (not_ready, l.different) below)
 
     pub ready_now : get_or lowered x 0 ≡ 0 → LoweredBy (entered (hs ++ x ∷ [])) n old lowered before (after ++ x ∷ [])
     ready_now z = record {

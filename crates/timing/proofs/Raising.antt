@@ -1,14 +1,11 @@
 -- One head more that waits for the time.
 use Rattle.std.proofs.lemmas.Grind.{common_steps}
-use Rattle.std.proofs.Common.{◌≡◌, ℕ, ◌<◌, max, List, [], ◌∷◌, ◌++◌, length, get_or, set, refl, ◌∙◌, arith}
+use Rattle.std.proofs.Common.{◌≡◌, ℕ, ◌<◌, max, List, [], ◌∷◌, ◌++◌, length, get_or, set, arith}
 use Rattle.timing.specs.Groups.{entered}
 use Rattle.timing.specs.Lowered.{RaisedBy}
 
-pub raised_none : (t : ℕ) (old : List ℕ) → RaisedBy (entered []) t old old
-raised_none t old = record { kept = λ v e. refl; raised = λ v p. absurd (omega arith) }
-
 pub raised_as : (c d : ℕ → ℕ) (t : ℕ) (old new : List ℕ) → ((v : ℕ) → c v ≡ d v) → RaisedBy c t old new → RaisedBy d t old new
-raised_as c d t old new e r = record { kept = λ v z. r.kept v (e v ∙ z); raised = λ v p. r.raised v (let a = e v in omega arith) }
+raised_as c d t old new e r = grind (arith, e)
 
 module _ (hs : List ℕ) (x t : ℕ) (old new : List ℕ) (h : x < length new) (r : RaisedBy (entered hs) t old new) where
   abbrev later : List ℕ

@@ -1,6 +1,6 @@
 -- One gate more that is looked at.
 use Rattle.std.proofs.lemmas.Grind.{common_steps}
-use Rattle.std.proofs.Common.{◌≡◌, ℕ, ◌+◌, ◌<◌, ◌≤◌, List, [], ◌∷◌, ◌++◌, length, get_or, take, drop, sym, ap, ◌∙◌, subst, inl, inr, arith}
+use Rattle.std.proofs.Common.{◌≡◌, ℕ, ◌+◌, ◌<◌, ◌≤◌, List, [], ◌∷◌, ◌++◌, length, get_or, take, drop, sym, subst, inl, inr, arith}
 use Rattle.std.specs.List.{enumerate_from}
 use Rattle.std.proofs.lemmas.List.{length-drop, get_or-drop, get_or_default}
 use Rattle.std.proofs.lemmas.List.FromFn.{length-enumerate_from, get_or-enumerate_from}
@@ -9,9 +9,6 @@ use Rattle.model.specs.Circuit.{◌∈◌}
 use Rattle.model.proofs.Pigeons.{pigeons}
 use Rattle.timing.specs.Lowered.{Seeded}
 use Rattle.timing.proofs.Members.{in_left, in_last, in_push, different_push}
-
-pub seeded_none : (counts ready : List ℕ) → ready ≡ [] → Seeded counts 1 ready
-seeded_none counts ready e = grind (arith, common_steps)
 
 module _ (counts : List ℕ) (g : ℕ) (ready : List ℕ) (old : Seeded counts g ready) where
   zero_then : (v : ℕ) → v ∈ ready → (0 < v) × (v < g + 1) × (get_or counts v 0 ≡ 0)
@@ -39,14 +36,7 @@ module _ (counts : List ℕ) (g : ℕ) (ready : List ℕ) (old : Seeded counts g
 -- the items of `enumerate` after `skip(1)`
 pub place : (counts : List ℕ) (k : ℕ) (p : ℕ × ℕ) → k < length (drop 1 (enumerate_from 0 counts)) → p ≡ get_or (drop 1 (enumerate_from 0 counts)) k p
     → (p.0 ≡ k + 1) × (k + 1 < length counts) × (p.1 ≡ get_or counts (k + 1) 0)
-place counts k p h e =
-    let l = length-enumerate_from 0 counts in
-    let d = length-drop 1 (enumerate_from 0 counts) in
-    let w : 1 + k < length counts = omega arith in
-    let s = e ∙ get_or-drop 1 (enumerate_from 0 counts) k p ∙ get_or-enumerate_from 0 counts (1 + k) p (omega arith) in
-    let z : 1 + k ≡ k + 1 = omega arith in
-    let a = ap (λ (q : ℕ × ℕ). q.0) s in
-    (omega arith, omega arith, ap (λ (q : ℕ × ℕ). q.1) s ∙ get_or_default counts (1 + k) p.1 0 w ∙ ap (λ (j : ℕ). get_or counts j 0) z)
+place counts k p h e = grind (arith, length-enumerate_from 0 counts, length-drop 1 (enumerate_from 0 counts), get_or-drop 1 (enumerate_from 0 counts) k p, get_or-enumerate_from 0 counts (1 + k) p, get_or_default counts (1 + k) p.1 0)
 
 -- the counts of the first gates say the same of them
 pub seeded_front : (counts : List ℕ) (n : ℕ) (ready : List ℕ) → n ≤ length counts → Seeded (take n counts) (length (take n counts)) ready → Seeded counts n ready

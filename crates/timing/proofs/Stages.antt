@@ -1,7 +1,7 @@
 -- The gates that are taken in order, and what is known when some are.
 use Rattle.std.proofs.lemmas.Grind.{common_steps}
 use Rattle.std.proofs.Common.{◌≡◌, ℕ, zero, suc, ◌+◌, ◌-◌, ◌*◌, ◌<◌, ◌≤◌, max, Bool, true, false, not, ◌&&◌, eqb, ◌⊎◌, List, [], ◌∷◌, length, get_or, count_by, sym, refl, ap, ◌∙◌, subst, inl, inr, arith}
-use Rattle.std.proofs.lemmas.Bool.{cases_eq, cases_lt, cases_Bool, eq-eqb, ne_eqb, eqb-true, and_parts, not-true, both_ways}
+use Rattle.std.proofs.lemmas.Bool.{cases_eq, cases_lt, ne_eqb, eqb-true, and_parts, not-true, both_ways}
 use Rattle.std.specs.Bool.{then_some}
 use Rattle.model.specs.Circuit.{◌∈◌}
 use Rattle.model.specs.Limits.{Different}
@@ -10,7 +10,7 @@ use Rattle.timing.specs.Arcs.{nowhere, Within, Hop, Walk, hop, more, Run, alone,
 use Rattle.timing.specs.Lowered.{Lowerable, Lowered, Raised, Seeded}
 use Rattle.timing.specs.Marks.{undone}
 use Rattle.timing.proofs.Counting.{bit, count_some, count_split, count_same, also, also_same, also_other, also_old, undone_less, undone_none, undone_some, host, undone_host}
-use Rattle.timing.proofs.Hops.{hop_inner, hop_count, count_hop, head_inner}
+use Rattle.timing.proofs.Hops.{hop_inner, hop_count, count_hop, hop_end, head_inner, walk_end}
 use Rattle.timing.proofs.Chase.{before, loops}
 
 -- when v is done
@@ -76,10 +76,10 @@ module _ (ds : List ℕ) (arcs : List Arc) (within : Within (length ds) arcs) (c
 
   -- u is not among the others that are ready
   apart : (v : ℕ) → v ∈ rest → v ≡ u → ⊥
-  apart v m e = stage.different.0 (subst (λ (w : ℕ). w ∈ rest) e m)
+  apart v m e = grind (arith, common_steps, stage.different)
 
   pub some_left : 1 ≤ left
-  some_left = let a = undone_less taken u (length ds) q.1 q.2 in let b = stage.lefts in omega arith
+  some_left = grind (arith, common_steps, undone_less taken u (length ds), q, stage.lefts)
 
   abbrev time : ℕ
   time = done ds times u
@@ -114,10 +114,7 @@ module _ (ds : List ℕ) (arcs : List Arc) (within : Within (length ds) arcs) (c
       stage.clear x t.0 t.1 t.2 (before k w)
 
   pub start_most : get_or times u 0 ≤ period
-  start_most = elim begins.met [
-    | inl z ↦ omega arith
-    | inr m ↦ let t = hop_taken m.0 m.1 in let a = stage.most m.0 t.0 t.1 t.2 in let d = m.3 in omega arith
-  ]
+  start_most = grind (arith, begins.met, hop_taken, stage.most)
 
   module _ (slow : get_or ds u 0 ≤ 65535) (next : ℕ) (is : next ≡ max period time)
       (later : List ℕ) (rise : Raised arcs u time times later) (m : ℕ) (wide : length ds ≤ m) (lowered ready : List ℕ) (low : Lowered arcs m u counts lowered rest ready) where
@@ -131,32 +128,17 @@ module _ (ds : List ℕ) (arcs : List Arc) (within : Within (length ds) arcs) (c
     then_was v e = elim (cases_eq v u) [ inl s ↦ inl s | inr f ↦ inr (f, sym (also_other u taken v f) ∙ e) ]
 
     queued_then : (v : ℕ) → v ∈ ready → (0 < v) × (v < length ds) × (then v ≡ false) × (get_or lowered v 0 ≡ 0)
-    queued_then v m = elim (low.fresh v m) [
-      | inl b ↦
-          let a = stage.queued v (inr b) in
-          (a.0, a.1, also_other u taken v (apart v b) ∙ a.2, (let l = less v a.1 in let z = a.3 in omega arith))
-      | inr t ↦
-          let f : v ≡ u → ⊥ = λ e. let c : get_or counts v 0 ≡ get_or counts u 0 = ap (λ (g : ℕ). get_or counts g 0) e in let z = q.3 in let p = t.1 in omega arith in
-          let inside = head_inner (length ds) arcs within u v (let a = low.less v t.0 in let p = t.1 in let z = t.2 in omega arith) in
-          let free : taken v ≡ false = elim (cases_Bool (taken v)) [
-            | inl e ↦ absurd (let z = stage.closed v t.3 inside.1 e in let p = t.1 in omega arith)
-            | inr e ↦ e
-          ] in
-          (t.3, inside.1, also_other u taken v f ∙ free, t.2)
-    ]
+    queued_then v m = grind (arith, low.fresh v m, stage.queued v, stage.closed v, apart v, low.less v, head_inner (length ds) arcs within u v, q.3, also_other u taken v)
 
     waiting_then : (v : ℕ) → 0 < v → v < length ds → then v ≡ false → get_or lowered v 0 ≡ 0 → v ∈ ready
     waiting_then v o l e z = grind (arith, common_steps)
 
     counted_out : (v : ℕ) → 0 < v → v < length ds → then v ≡ true → get_or counts v 0 ≡ 0
-    counted_out v o l e = elim (then_was v e) [
-      | inl s ↦ ap (λ (g : ℕ). get_or counts g 0) s ∙ q.3
-      | inr t ↦ stage.closed v o l t.1
-    ]
+    counted_out v o l e = grind (arith, then_was v e, stage.closed v o l, q.3)
 
     -- the times of the taken gates stay
     stays : (v : ℕ) → 0 < v → v < length ds → then v ≡ true → get_or later v 0 ≡ get_or times v 0
-    stays v o l e = rise.kept v (let a = low.less v (omega arith) in let z = counted_out v o l e in omega arith)
+    stays v o l e = grind (arith, rise.kept v, low.less v, counted_out v o l e)
 
     grows : (v : ℕ) → get_or times v 0 ≤ get_or later v 0
     grows v = grind (arith, common_steps)
@@ -171,8 +153,7 @@ module _ (ds : List ℕ) (arcs : List Arc) (within : Within (length ds) arcs) (c
               let b = ap (done ds times) y in
               omega arith
           | inr t ↦
-              let w = within h.place h.there in
-              let j : (0 < v) × (v < length ds) = subst (λ (g : ℕ). (0 < g) × (g < length ds)) h.enters (w.enters, w.entered) in
+              let j = hop_end (length ds) arcs within x v h in
               let a = (stage.starts v j.0 j.1).most x h t.1 in
               let b = grows v in
               omega arith
@@ -215,18 +196,10 @@ module _ (ds : List ℕ) (arcs : List Arc) (within : Within (length ds) arcs) (c
         ])
 
     clear_then : (v : ℕ) → 0 < v → v < length ds → then v ≡ true → Walk arcs v v → ⊥
-    clear_then v o l e w = elim (then_was v e) [
-      | inl s ↦ no_walk v s (subst (λ (g : ℕ). Walk arcs v g) s w)
-      | inr t ↦ stage.clear v o l t.1 w
-    ]
+    clear_then v o l e w = grind (arith, common_steps, no_walk v, stage.clear v o l)
 
     most_then : (v : ℕ) → 0 < v → v < length ds → then v ≡ true → done ds later v ≤ next
-    most_then v o l e =
-        let a = stays v o l e in
-        elim (then_was v e) [
-          | inl s ↦ let b = ap (done ds times) s in omega arith
-          | inr t ↦ let b = stage.most v o l t.1 in omega arith
-        ]
+    most_then v o l e = grind (arith, then_was v e, stays v o l e, stage.most v o l)
 
     met_then : (next ≡ 0) ⊎ ((x : ℕ) × (v : ℕ) × (r : Run ds arcs x v) × (spent r ≡ next))
     met_then = elim (cases_lt period time) [
@@ -284,24 +257,14 @@ begun ds arcs some within counts times ready all s none = record {
 
 run_end : (ds : List ℕ) (arcs : List Arc) → Within (length ds) arcs → (u v : ℕ) → Run ds arcs u v → (0 < v) × (v < length ds)
 run_end ds arcs within u v (alone i l) = (i, l)
-run_end ds arcs within u v (on r h) =
-    let i = within h.place h.there in
-    subst (λ (g : ℕ). (0 < g) × (g < length ds)) h.enters (i.enters, i.entered)
-
-walk_end : (ds : List ℕ) (arcs : List Arc) → Within (length ds) arcs → (u v : ℕ) → Walk arcs u v → (0 < v) × (v < length ds)
-walk_end ds arcs within u v (hop h) =
-    let i = within h.place h.there in
-    subst (λ (g : ℕ). (0 < g) × (g < length ds)) h.enters (i.enters, i.entered)
-walk_end ds arcs within u v (more w h) =
-    let i = within h.place h.there in
-    subst (λ (g : ℕ). (0 < g) × (g < length ds)) h.enters (i.enters, i.entered)
+run_end ds arcs within u v (on {x = x} r h) = hop_end (length ds) arcs within x v h
 
 module _ (ds : List ℕ) (arcs : List Arc) (within : Within (length ds) arcs) (counts times ready : List ℕ) (period left : ℕ) (taken : ℕ → Bool)
     (stage : Stage ds arcs counts times ready period left taken) where
   all_taken : left ≡ 0 → NoLoop arcs × Longest ds arcs period
   all_taken z =
       let every : (k : ℕ) → k < length ds → taken k ≡ true = undone_none taken (length ds) (sym stage.lefts ∙ z) in (
-        (λ v w. let i = walk_end ds arcs within v v w in stage.clear v i.0 i.1 (every v i.1) w),
+        (λ v w. let i = walk_end (length ds) arcs within v v w in stage.clear v i.0 i.1 (every v i.1) w),
         record {
           most = λ u v r.
               let i = run_end ds arcs within u v r in
@@ -329,7 +292,4 @@ module _ (ds : List ℕ) (arcs : List Arc) (within : Within (length ds) arcs) (c
           ((get_or arcs m.0 nowhere).from, record { place = m.0; there = m.1; leaves = refl; enters = eqb-true _ _ p.0 }, (within m.0 m.1).left, not-true _ p.1)
 
   pub settled : ready ≡ [] → Timed ds arcs (then_some (eqb left 0) period)
-  settled none = elim (cases_eq left 0) [
-    | inl z ↦ subst (λ b. Timed ds arcs (then_some b period)) (sym (eq-eqb left 0 z)) (all_taken z)
-    | inr f ↦ subst (λ b. Timed ds arcs (then_some b period)) (sym (ne_eqb left 0 f)) (stuck none (omega arith))
-  ]
+  settled none = grind (arith, common_steps, all_taken, stuck)

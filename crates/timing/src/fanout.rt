@@ -19,10 +19,10 @@ pub(crate) struct Fanout<'a> {
 // A clause sees the arcs.
 impl<'a> Model for Fanout<'a> {
     ghost use Rattle.std.specs.Prelude.{List, length};
-    ghost use Rattle.timing.specs.declared.Arc.{Arc as Wire};
+    ghost use Rattle.timing.specs.declared.Arc.{Arc};
     ghost use Rattle.timing.specs.Groups.{Grouping};
 
-    ghost Value = { List Wire };
+    ghost Value = { List Arc };
 
     ghost view = { λ f. f.arcs.now };
 

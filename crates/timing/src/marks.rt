@@ -4,7 +4,7 @@ ghost use Rattle.timing.specs.Marks.{Next, Spread, Reached, Loops, Lowest};
 
 use crate::{Arc, OnLoop};
 
-// There is a mark for each number that an arc can name.
+// There is a mark for each number that an arc can name, so none is out of range.
 
 // Marks just the gates that an arc from the gate enters.
 fn next(arcs: &[Arc], gate: u8) -> [bool; 256]

@@ -1,5 +1,5 @@
-use Rattle.std.proofs.Common.{ℕ, ◌<◌, Bool, false, length, subst, sym, ◌∙◌, arith}
-use Rattle.timing.specs.Marks.{marked, undone, Spread}
+use Rattle.std.proofs.Common.{Bool, false, length, subst, arith}
+use Rattle.timing.specs.Marks.{Spread}
 use Rattle.timing.proofs.Marking as lemma
 use Rattle.timing.proofs.marks.reached.Goals as goal
 

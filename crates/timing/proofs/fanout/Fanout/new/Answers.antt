@@ -1,5 +1,4 @@
-use Rattle.std.proofs.Common.{◌≡◌, ℕ, ◌<◌, length, subst, refl, arith, rules}
-use Rattle.timing.specs.Groups.{Grouped}
+use Rattle.std.proofs.Common.{refl}
 use Rattle.timing.proofs.Grouping as lemma
 use Rattle.timing.proofs.fanout.Fanout.new.Goals as goal
 
