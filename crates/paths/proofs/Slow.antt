@@ -106,7 +106,7 @@ module _ (ds : List ℕ) (ws : List (Option Wire)) where
   pub so_far_same : (u v d best : ℕ) (found : List (Way (ℕ × ℕ))) (gs : List ℕ) → d < best → Reached ds ws u found v d → SoFar c u best gs → SoFar c (u + 1) best gs
   so_far_same u v d best found gs lt r s = record {
     most = most_more u v d best best found (omega arith) (omega arith) r s.most;
-    met = ⊎_elim (λ none. absurd (let z : ⊥ = omega arith in z)) (λ some. inr some) s.met;
+    met = ⊎_elim (λ none. absurd (omega arith)) (λ some. inr some) s.met;
   }
 
   -- no path begins at the host

@@ -1,13 +1,15 @@
 -- Walks that come to no vertex twice.
-use Rattle.std.proofs.Common.{◌≡◌, ℕ, suc, ◌+◌, ◌<◌, true, false, List, [], ◌∷◌, ◌++◌, length, Some, None, Option, sym, refl, ap, ◌∙◌, subst, ⊎_elim, add-one, arith}
-use Rattle.std.proofs.lemmas.Bool.{both_ways, cases_Bool}
+use Rattle.std.proofs.Common.{◌≡◌, ℕ, ◌+◌, ◌<◌, true, false, List, [], ◌∷◌, ◌++◌, length, map, eqb, Some, None, Option, sym, refl, ap, ◌∙◌, subst, ⊎_elim, add-one, arith}
+use Rattle.std.proofs.lemmas.Bool.{both_ways, cases_Bool, false≢true, eqb-true, ne_eqb, or_cases}
+use Rattle.std.proofs.lemmas.List.{length-map}
+use Rattle.std.proofs.lemmas.Map.Steps.{length-le_from_distinct_below}
+use Rattle.std.specs.List.{AllByRecursion, IsDistinct, list_any}
 use Rattle.ways.specs.Laws.{Kind, Laws}
 use Rattle.ways.specs.Walks.{Leads, Clear, Once, long, total, known, near, Sound, IsWay, LoopBelow}
 use Rattle.ways.specs.Keeps.{Good}
 use Rattle.ways.specs.declared.net.Arc.{Arc}
 use Rattle.ways.specs.declared.walk.Way.{Way}
 use Rattle.ways.proofs.Near.{some_same, near_trans}
-use Rattle.ways.proofs.Few.{NotIn, Apart, Under, few}
 
 pub clear_front : {L : Type 0} (at : ℕ → Option (Arc L)) (u : ℕ) (seg qs : List ℕ) → Clear at u (seg ++ qs) → Clear at u seg
 clear_front at u [] qs h = tt
@@ -25,12 +27,7 @@ tail_of None = 0
 tail_of (Some x) = x.tail
 
 abbrev tails : {L : Type 0} → (ℕ → Option (Arc L)) → List ℕ → List ℕ
-tails at [] = []
-tails at (a ∷ ps) = tail_of (at a) ∷ tails at ps
-
-tails-length : {L : Type 0} (at : ℕ → Option (Arc L)) (ps : List ℕ) → length (tails at ps) ≡ length ps
-tails-length at [] = refl
-tails-length at (a ∷ ps) = ap suc (tails-length at ps)
+tails at ps = map (λ a. tail_of (at a)) ps
 
 module _ {L : Type 0} {K : Kind L} (laws : Laws K) (at : ℕ → Option (Arc L)) (s : ℕ) (d : List (Way L)) where
   pub good_leads : (ps : List ℕ) (v : ℕ) → Good K at s d ps v → Leads at s ps v
@@ -67,28 +64,29 @@ module _ {L : Type 0} {K : Kind L} (laws : Laws K) (at : ℕ → Option (Arc L))
     good_lower d' low ps h.0.tail h.5,
   )
 
-  not_in : (u : ℕ) (ps : List ℕ) (v : ℕ) → Good K at s d ps v → Clear at u ps → NotIn u (tails at ps)
+  not_in : (u : ℕ) (ps : List ℕ) (v : ℕ) → Good K at s d ps v → Clear at u ps → AllByRecursion (λ t. eqb u t ≡ false) (tails at ps)
   not_in u [] v h c = tt
-  not_in u (a ∷ ps) v h c = (
-    λ e. c.0 h.0 h.1 (ap tail_of (sym h.1) ∙ e),
-    not_in u ps h.0.tail h.5 c.1,
-  )
+  not_in u (a ∷ ps) v h c = (ne_eqb u (tail_of (at a)) (λ e. c.0 h.0 h.1 (ap tail_of (sym h.1) ∙ sym e)), not_in u ps h.0.tail h.5 c.1)
+
+  -- the vertices that such a walk comes to
+  apart : (ps : List ℕ) (v : ℕ) → Good K at s d ps v → IsDistinct eqb (v ∷ tails at ps)
+  unfolding IsDistinct
+  apart [] v h = (tt, tt)
+  apart (a ∷ ps) v h = (not_in v (a ∷ ps) v h h.3, subst (λ u. IsDistinct eqb (u ∷ tails at ps)) (ap tail_of (sym h.1)) (apart ps h.0.tail h.5))
 
   module _ (many n : ℕ) (sound : Sound K at many n) where
-    apart : (ps : List ℕ) (v : ℕ) → v < n → Good K at s d ps v → Apart (v ∷ tails at ps) × Under n (v ∷ tails at ps)
-    apart [] v lt h = ((tt, tt), (lt, tt))
-    apart (a ∷ ps) v lt h =
-        let t = sound.tail a h.0 h.1 in
-        let r : Apart (tails at (a ∷ ps)) × Under n (tails at (a ∷ ps))
-        = subst (λ u. Apart (u ∷ tails at ps) × Under n (u ∷ tails at ps)) (ap tail_of (sym h.1)) (apart ps h.0.tail t h.5) in
-        ((not_in v (a ∷ ps) v h h.3, r.0), (lt, r.1))
+    under : (ps : List ℕ) (v q : ℕ) → v < n → Good K at s d ps v → list_any (eqb q) (v ∷ tails at ps) ≡ true → q < n
+    under [] v q lt h e = ⊎_elim (λ t. subst (λ u. u < n) (sym (eqb-true q v t)) lt) (λ t. absurd (false≢true t)) (or_cases (eqb q v) false e)
+    under (a ∷ ps) v q lt h e = ⊎_elim
+        (λ t. subst (λ u. u < n) (sym (eqb-true q v t)) lt)
+        (λ t. under ps h.0.tail q (sound.tail a h.0 h.1) h.5 (subst (λ u. list_any (eqb q) (u ∷ tails at ps) ≡ true) (ap tail_of h.1) t))
+        (or_cases (eqb q v) (list_any (eqb q) (tails at (a ∷ ps))) e)
 
     -- such a walk has fewer arcs than there are vertices
     pub good_few : (ps : List ℕ) (v : ℕ) → v < n → Good K at s d ps v → length ps < n
     good_few ps v lt h =
-        let r = apart ps v lt h in
-        let l = few n (v ∷ tails at ps) r.0 r.1 in
-        let e = tails-length at ps in
+        let l = length-le_from_distinct_below (v ∷ tails at ps) n (apart ps v h) (λ q e. under ps v q lt h e) in
+        let e = length-map ps (λ a. tail_of (at a)) in
         omega arith
 
     pub good_fits : (ps : List ℕ) (v : ℕ) → Good K at s d ps v → K.fits (length ps) (total K at ps)

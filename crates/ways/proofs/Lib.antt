@@ -1,6 +1,5 @@
 pub mod Near
 pub mod Walks
-pub mod Few
 pub mod Good
 pub mod Below
 pub mod Steps

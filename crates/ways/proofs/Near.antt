@@ -1,11 +1,11 @@
 -- The order of distances with `None` as the farthest.
-use Rattle.std.proofs.Common.{◌≡◌, ℕ, true, false, Some, None, Option, refl, ⊎_elim, arith}
+use Rattle.std.proofs.Common.{◌≡◌, true, false, Some, None, Option, refl, ⊎_elim}
 use Rattle.std.proofs.lemmas.Bool.{both_ways, false≢true, true≢false, cases_Bool}
 use Rattle.ways.specs.Laws.{Kind, Laws}
 use Rattle.ways.specs.Walks.{near, past}
 
 pub some_none : {X : Type 0} (o : Option X) (x : X) → o ≡ None → o ≡ Some x → ⊥
-some_none o x p q = let z : ◌≡◌ {A = ℕ} 0 1 = cc in omega arith
+some_none o x p q = cc
 
 pub some_same : {X : Type 0} (o : Option X) (x y : X) → o ≡ Some x → o ≡ Some y → x ≡ y
 some_same o x y p q = cc

@@ -139,7 +139,7 @@ module _ {L : Type 0} {K : Kind L} (laws : Laws K) (at : ℕ → Option (Arc L))
 
   start_low : (ps : List ℕ) (v : ℕ) → length ps ≤ 0 → Leads at s ps v → near K (known found v).distance (Some (total K at ps)) ≡ true
   start_low [] v lk e = subst (λ u. near K (known found u).distance (Some K.zero) ≡ true) (sym e) near_start
-  start_low (a ∷ ps) v lk h = absurd (let z : ⊥ = omega arith in z)
+  start_low (a ∷ ps) v lk h = absurd (omega arith)
 
   pub after_start : After K at s 0 found
   after_start = record {

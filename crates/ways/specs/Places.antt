@@ -3,7 +3,7 @@ use Rattle.std.specs.Prelude.{◌≡◌, ℕ, zero, suc, ◌<◌, List, [], ◌�
 use Rattle.std.proofs.Common.{arith}
 
 pub none_some : {X : Type 0} (x : X) → None ≢ Some x
-none_some x e = let z : ◌≡◌ {A = ℕ} 0 1 = cc in omega arith
+none_some x e = cc
 
 pub listed_places : {X : Type 0} (xs : List (Option X)) (a : ℕ) (x : X) → slice_index_or xs a None ≡ Some x → a < length xs
 listed_places [] a x e = absurd (none_some x e)

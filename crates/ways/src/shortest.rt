@@ -15,6 +15,8 @@ fn beats<L: Distance>(sum: L, so_far: Option<L>) -> bool
     so_far.is_none_or(|x| !x.at_most(sum))
 }
 
+// What a search works on stays parameters: a ghost field takes only a fact with at most one proof, and `sound` and `kept` may have more.
+
 // The arc at i leads on to `sum`, which is less than the distance to its head: the distance falls, or the arc closes a loop.
 fn improve<N: Net>(
     net: &N,
