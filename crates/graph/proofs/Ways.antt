@@ -6,7 +6,7 @@ use Rattle.model.specs.declared.Wire.{Wire}
 use Rattle.model.specs.Circuit.{Circuit, Link}
 use Rattle.timing.specs.declared.Arc.{Arc}
 use Rattle.timing.specs.Arcs as arcs
-use Rattle.timing.specs.Arcs.{Hop, Walk, hop, more, Ended}
+use Rattle.timing.specs.Arcs.{Hop, Walk, hop, more}
 use Rattle.timing.specs.Marks.{Unreached, Spanned}
 use Rattle.refusals.specs.declared.Refusal.TheVariants.{Apart}
 use Rattle.graph.specs.declared.graph.ends.Ends.{Ends}
@@ -64,15 +64,6 @@ hop_either : (es : List (Option Ends)) (u v : ℕ) → Hop (both_ways es) u v �
 hop_either [] u v h = absurd (let l = h.there in omega arith)
 hop_either (None ∷ es) u v h = further None es u v (hop_either es u v h)
 hop_either (Some e ∷ es) u v h = by_place e es u v (hop_either es u v) h.place h.there h.leaves h.enters
-
-pub both_ended : (es : List (Option Ends)) (n : ℕ) → Inside es n → Ended n (both_ways es)
-both_ended es n inside k h =
-    let r = hop_either es _ _ (record { place = k; there = h; leaves = refl; enters = refl }) in
-    let i = inside r.at r.ends r.lives in
-    elim r.way [
-      | inl p ↦ ((let a = p.0 in let b = i.0 in omega arith), (let a = p.1 in let b = i.1 in omega arith))
-      | inr p ↦ ((let a = p.1 in let b = i.1 in omega arith), (let a = p.0 in let b = i.0 in omega arith))
-    ]
 
 module _ (ds : List ℕ) (es : List (Option Ends)) (rs : List ℕ) (even : length rs ≡ length es) where
   abbrev c : Circuit

@@ -15,10 +15,6 @@ pub record Inside (n : ℕ) (a : Arc) : Type 0 where
 abbrev pub Within : ℕ → List Arc → Type 0
 Within n arcs = (k : ℕ) → k < length arcs → Inside n (slice_index_or arcs k nowhere)
 
--- every arc leaves and enters a gate below n
-abbrev pub Ended : ℕ → List Arc → Type 0
-Ended n arcs = (k : ℕ) → k < length arcs → ((slice_index_or arcs k nowhere).from < n) × ((slice_index_or arcs k nowhere).to < n)
-
 -- an arc of the list from u to v
 pub record Hop (arcs : List Arc) (u v : ℕ) : Type 0 where
   pub place : ℕ

@@ -4,7 +4,7 @@ mod fanout;
 mod marks;
 
 ghost use Rattle.std.specs.Prelude.{◌≡◌, ◌≤◌, ◌<◌, [], length};
-ghost use Rattle.timing.specs.Arcs.{Within, Ended, Timed};
+ghost use Rattle.timing.specs.Arcs.{Within, Timed};
 ghost use Rattle.timing.specs.Marks.{Spanned, Measured};
 ghost use Rattle.timing.specs.Lowered.{Seeded};
 
@@ -74,8 +74,7 @@ pub fn period(delays: &[u16], arcs: &[Arc]) -> Result<u32, OnLoop>
 
 // The least gate but the host that no walk from the host leads to.
 pub fn unreached(arcs: &[Arc], gates: usize) -> Option<u32>
-    requires ended { Ended gates arcs.now }
-    requires few { gates ≤ 128 }
+    requires { gates ≤ 128 }
     ensures { Spanned arcs.now gates result }
 {
     let marks = reached(arcs, 0);

@@ -1,8 +1,7 @@
 ghost use Rattle.std.specs.Prelude.{◌≡◌, ◌≤◌, length};
-ghost use Rattle.graph.specs.Reads.{circuit, circuit_of};
+ghost use Rattle.graph.specs.Reads.{circuit};
 ghost use Rattle.graph.specs.Joins.{both_ways, Spans};
 
-use super::rows::Rows;
 use super::{Ends, Graph};
 use arrayvec::ArrayVec;
 use refusals::Refusal;
@@ -30,24 +29,15 @@ fn double(wires: &[Option<Ends>]) -> ArrayVec<Arc, 1024>
     arcs
 }
 
-impl Rows<'_> {
-    // Refused with the lowest gate that wires do not join to the host.
-    fn joined(&self) -> Result<(), Refusal>
-        ensures { Spans (circuit_of self.now.delays.now self.now.wires.now self.now.registers.now) result }
-    {
-        let arcs = double(self.wires);
-        match unreached(arcs.as_slice(), self.delays.len()) {
-            None => Ok(()),
-            Some(g) => Err(Refusal::Apart(g)),
-        }
-    }
-}
-
 impl Graph {
     // Refused where a gate is not joined to the host by wires, in either direction.
     pub fn joined(&self) -> Result<(), Refusal>
         ensures { Spans (circuit self.now) result }
     {
-        self.rows().joined()
+        let arcs = double(self.wires.as_slice());
+        match unreached(arcs.as_slice(), self.delays.len()) {
+            None => Ok(()),
+            Some(gate) => Err(Refusal::Apart(gate)),
+        }
     }
 }
