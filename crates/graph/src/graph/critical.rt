@@ -17,8 +17,7 @@ impl Graph {
             delays: self.delays.as_slice(),
             wires: wires.as_slice(),
         };
-        Ok(Run {
-            gates: paths.slowest(),
-        })
+        let gates = paths.slowest();
+        Ok(Run { gates })
     }
 }

@@ -6,4 +6,4 @@ pub invariant_of-paths-clause-deep : goal.invariant_of-paths-clause-deep
 invariant_of-paths-clause-deep c = rw (c.as_slice-2.ensures.value, c.wiring-wires.ensures.wires) (deep (circuit c.args.self.now).wires c.wiring-wires.ensures.ranged)
 
 pub returns : goal.returns
-returns c = record { outcome = rw (c.as_slice.ensures.value, c.as_slice-2.ensures.value, c.wiring-wires.ensures.wires) at c.slowest.ensures }
+returns c = record { outcome = rw (c.as_slice.ensures.value, c.as_slice-2.ensures.value, c.wiring-wires.ensures.wires) at c.slowest-gates.ensures }
