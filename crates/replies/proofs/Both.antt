@@ -1,7 +1,8 @@
 -- Making a reply's word and taking it apart.
-use Rattle.std.proofs.Common.{◌≡◌, ℕ, zero, suc, ◌+◌, ◌-◌, ◌*◌, ◌/◌, ◌%◌, ◌<◌, ◌≤◌, ltb, ℤ, pos, negsuc, ◌≤ℤ◌, sym, refl, ap, ◌∙◌, subst, inl, inr, add_assoc, arith}
+use Rattle.std.proofs.Common.{◌≡◌, ℕ, zero, suc, ◌/◌, ◌%◌, ◌<◌, ℤ, pos, negsuc, ◌≤ℤ◌, sym, refl, ap, ◌∙◌, subst, arith}
 use Rattle.std.proofs.lemmas.Int.{ints}
-use Rattle.std.proofs.lemmas.Bool.{lt-leb, leb-false, cond-true, cond-false, lt-ltb, le-ltb, cases_lt}
+use Rattle.std.proofs.lemmas.Bool.Decides.{nat_tests}
+use Rattle.std.proofs.lemmas.Bool.{lt-leb, leb-false}
 use Rattle.words.specs.declared.Kind.TheVariants.{Cost, Label, Refused, Limited}
 use Rattle.replies.specs.declared.LimitWord.{LimitWord}
 use Rattle.replies.specs.declared.LimitWord.TheVariants.{Floor, Ceiling, Clock as Clocked, Rule}
@@ -13,22 +14,11 @@ use Rattle.replies.specs.Trips.{ReplyTrips}
 
 -- two's complement and back
 signed-complement : (l : ℤ) → negsuc 0x7FFF ≤ℤ l → l ≤ℤ pos 0x7FFF → (complement l < 0x1_0000) × (signed (complement l) ≡ l)
-signed-complement (pos n) h k =
-    let p : n < 0x8000 = omega (arith, ints) in
-    (omega arith, cond-true (ltb n 0x8000) (pos n) (negsuc (0xFFFF - n)) (lt-ltb n 0x8000 p))
-signed-complement (negsuc n) h k =
-    let p : n < 0x8000 = omega (arith, ints) in
-    let m = 0xFFFF - n in
-    let q : 0x8000 ≤ m = omega arith in
-    let r : 0xFFFF - m ≡ n = omega arith in
-    (omega arith, cond-false (ltb m 0x8000) (pos m) (negsuc (0xFFFF - m)) (le-ltb m 0x8000 q) ∙ ap negsuc r)
+signed-complement (pos n) h k = let p : n < 0x8000 = omega (arith, ints) in (omega arith, grind (arith, nat_tests))
+signed-complement (negsuc n) h k = let p : n < 0x8000 = omega (arith, ints) in (omega arith, grind (arith, nat_tests))
 
 complement-signed : (n : ℕ) → n < 0x1_0000 → complement (signed n) ≡ n
-complement-signed n h =
-    elim (cases_lt n 0x8000) [
-      | inl k ↦ ap complement (cond-true (ltb n 0x8000) (pos n) (negsuc (0xFFFF - n)) (lt-ltb n 0x8000 k))
-      | inr k ↦ ap complement (cond-false (ltb n 0x8000) (pos n) (negsuc (0xFFFF - n)) (le-ltb n 0x8000 k)) ∙ omega arith
-    ]
+complement-signed n h = grind (arith, nat_tests)
 
 -- the fields below which a limit has no stray bit
 limit_plain : (w which : ℕ) → w / 0x1000_0000 ≡ 8 → w % 0x1000_0000 / 0x400_0000 ≡ which → w % 0x1000_0000 % 0x400_0000 < limit_room (limit_kind_at which) → Plain Limited w
@@ -44,22 +34,15 @@ limit_trip (Ceiling n) h =
     (limit_plain (limit_word (Ceiling n)) 1 (omega arith) (omega arith) (omega arith), limit_at_lem (Ceiling n) 1 (omega arith) (ap Ceiling (omega arith)))
 limit_trip (Clocked u v) h =
     let w = limit_word (Clocked u v) in
-    let e : Clocked (from_of w) (to_of w) ≡ Clocked u v = let p : from_of w ≡ u = omega arith in let q : to_of w ≡ v = omega arith in cc in
+    let e : Clocked (from_of w) (to_of w) ≡ Clocked u v = grind arith in
     (limit_plain w 2 (omega arith) (omega arith) (omega arith), limit_at_lem (Clocked u v) 2 (omega arith) e)
 limit_trip (Rule n) h =
     (limit_plain (limit_word (Rule n)) 3 (omega arith) (omega arith) (omega arith), limit_at_lem (Rule n) 3 (omega arith) (ap Rule (omega arith)))
 
-two_gates : (w : ℕ) → from_of w * 0x80 + to_of w ≡ w % 0x4000
-two_gates w = let p : w / 0x80 / 0x80 ≡ w / 0x4000 = omega arith in omega arith
-
 limit_whole : (w which : ℕ) → w / 0x1000_0000 ≡ 8 → w / 0x400_0000 % 4 ≡ which → w % 0x400_0000 < limit_room (limit_kind_at which) → limit_word (limit_at (limit_kind_at which) w) ≡ w
 limit_whole w zero e f h = omega arith
 limit_whole w (suc zero) e f h = omega arith
-limit_whole w (suc (suc zero)) e f h =
-    let p : 0x8800_0000 + w % 0x4000 ≡ w = omega arith in
-    let q : from_of w * 0x80 + to_of w ≡ w % 0x4000 = two_gates w in
-    let P : ℕ → Type 0 = λ n. 0x8800_0000 + n ≡ w in
-    add_assoc 0x8800_0000 (from_of w * 0x80) (to_of w) ∙ subst P (sym q) p
+limit_whole w (suc (suc zero)) e f h = omega arith
 limit_whole w (suc (suc (suc zero))) e f h = omega arith
 limit_whole w (suc (suc (suc (suc n)))) e f h = absurd (omega arith)
 
@@ -88,7 +71,6 @@ reply_trips = record {
       omega arith;
   refusal_back = λ w h.
       let a = top Refused w h in
-      let p : w / 0x10_0000 / 0x100 ≡ w / 0x1000_0000 = omega arith in
       omega arith;
   limit_back = limit_back;
 }

@@ -12,22 +12,10 @@ use Rattle.word_bytes.specs.Bytes.{word_of, bytes_of, words_of, Written}
 
 -- a word is made of its bytes, and gives them back
 pub word_back : (w : ℕ) → w < 2 ^ 32 → word_of (w % 0x100) (w / 0x100 % 0x100) (w / 0x1_0000 % 0x100) (w / 0x100_0000 % 0x100) ≡ w
-word_back w h =
-    let p : w / 0x100 / 0x100 ≡ w / 0x1_0000 = omega arith in
-    let q : w / 0x1_0000 / 0x100 ≡ w / 0x100_0000 = omega arith in
-    let r : w / 0x100_0000 % 0x100 ≡ w / 0x100_0000 = omega arith in
-    omega arith
+word_back w h = omega arith
 
 pub bytes_back : (a b c d : ℕ) → a < 0x100 → b < 0x100 → c < 0x100 → d < 0x100 → bytes_of (word_of a b c d) ≡ a ∷ b ∷ c ∷ d ∷ []
-bytes_back a b c d h i j k =
-    let q : word_of a b c d / 0x100 ≡ b + c * 0x100 + d * 0x1_0000 = omega arith in
-    let r : word_of a b c d / 0x1_0000 ≡ c + d * 0x100 = omega arith in
-    let s : word_of a b c d / 0x100_0000 ≡ d = omega arith in
-    let t : word_of a b c d % 0x100 ≡ a = omega arith in
-    let u : (b + c * 0x100 + d * 0x1_0000) % 0x100 ≡ b = omega arith in
-    let v : (c + d * 0x100) % 0x100 ≡ c = omega arith in
-    let x : d % 0x100 ≡ d = omega arith in
-    cc
+bytes_back a b c d h i j k = grind arith
 
 -- the words are what each four bytes make
 pub by_fours : (bs : List ℕ) → words_of bs ≡ map (from_le_bytes w32) (first_chunks 4 (length bs / 4) bs)

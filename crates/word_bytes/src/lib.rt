@@ -31,7 +31,7 @@ pub fn put_word(bytes: &mut [u8], i: usize, word: u32) -> bool
     if i >= bytes.len() / 4 {
         return false;
     }
-    // By its range: after `as_chunks_mut` or `get_mut` no proof knows what the other bytes are.
+    // By its range: after `as_chunks_mut` or `get_mut` no proof knows what the bytes are.
     let start = 4 * i;
     bytes[start..start + 4].copy_from_slice(&word.to_le_bytes());
     true

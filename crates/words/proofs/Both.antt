@@ -51,12 +51,7 @@ trips = record {
   end = λ n h. (plain End (end_word n) 0 (omega arith) refl refl, omega arith);
   gate_back = λ w h. let a = top Gate w h in let b = leb-false 0x1_0000 (w % 0x1000_0000) (low Gate w h) in omega arith;
   wire_back = λ w h. let a = top Wire w h in let b = leb-false 0x4000 (w % 0x1000_0000) (low Wire w h) in omega arith;
-  fill_back = λ w h.
-      let a = top Fill w h in
-      let p : w / 0x100 / 0x100 ≡ w / 0x1_0000 = omega arith in
-      let q : w / 0x1_0000 / 0x100 ≡ w / 0x100_0000 = omega arith in
-      let r : w / 0x100_0000 / 16 ≡ w / 0x1000_0000 = omega arith in
-      omega arith;
+  fill_back = λ w h. let a = top Fill w h in omega arith;
   clock_back = λ w h. let a = top Clock w h in let b = leb-false 0x100_0000 (w % 0x1000_0000) (low Clock w h) in omega arith;
   end_back = λ w h. let a = top End w h in omega arith;
 }

@@ -32,6 +32,7 @@ impl Field {
     }
 }
 
+// A gate's delay; a wire's ends; what a fill gives a wire; the clock; the count of an end.
 pub const DELAY: Field = Field {
     low: 1,
     size: 0x1_0000,
@@ -73,6 +74,7 @@ pub const COUNT: Field = Field {
     low: 1,
     size: 0x1000_0000,
 };
+
 // The two bits below the kind.
 pub const LIMIT: Field = Field {
     low: 0x400_0000,

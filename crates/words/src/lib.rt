@@ -24,7 +24,7 @@ pub enum Kind {
     Other,
 }
 
-// What a limit's word limits: a wire's registers from below or from above, the clock between two gates, or a rule.
+// Which limit a limit's word states: a wire's floor or ceiling, the clock's between two gates, or a rule's.
 #[derive(Clone, Copy, PartialEq, Eq, Debug)]
 pub enum LimitKind {
     Floor,
@@ -79,7 +79,6 @@ pub fn has_stray(word: u32) -> bool
     }
 }
 
-// Which limit a limit's word states.
 pub fn limit_kind(word: u32) -> LimitKind
     ensures { result ≡ limit_kind_of word }
 {

@@ -35,3 +35,9 @@ fn made_words(rt: HostRuntime) {
         assert_eq!(rt; made, word);
     }
 }
+
+#[test]
+fn records_of_words(rt: HostRuntime) {
+    let words = [0x1000_0001, 0x2000_0083, 0x3001_00FF, 0x4000_0003, 4];
+    assert_eq!(rt; crate::reader::records(&words).count(), 3);
+}

@@ -1,14 +1,10 @@
 -- Words put into a memory one after the other.
-use Rattle.std.proofs.Common.{◌≡◌, ℕ, ◌+◌, ◌*◌, ◌<◌, ◌≤◌, List, [], ◌∷◌, ◌++◌, map, length, get_or, take, drop, set, Some, Option, sym, refl, ap, ◌∙◌, subst, arith}
+use Rattle.std.proofs.Common.{◌≡◌, ℕ, ◌+◌, ◌*◌, ◌<◌, ◌≤◌, List, [], ◌∷◌, ◌++◌, map, length, get_or, take, drop, set, sym, refl, ap, ◌∙◌, subst, arith}
 use Rattle.std.proofs.lemmas.List.{append-nil, take_at, drop_at, drop-drop, drop_all, length-drop, append_assoc, length-append, length-take-le, length_push, take_more, take_all, drop_more, set_at, length-map, map_more}
 use borrow.Rule.Slice.PartMut.{put_mid}
 use Rattle.words.specs.Layout.{gate_word, wire_word, fill_word}
 use Rattle.words.specs.Netlist.{Wire, WireWords, none, filled}
 use Rattle.writer.specs.Writing.{body_of, Puts}
-
--- what a maker made, unwrapped
-pub only : {w x : ℕ} (r : Option ℕ) → r ≡ Some x → r ≡ Some w → x ≡ w
-only r e f = cc
 
 -- one word more
 pub puts_more : (old xs out : List ℕ) (n w : ℕ) → Puts old xs out → n ≡ length xs → n < length old → Puts old (xs ++ w ∷ []) (set out n w)
