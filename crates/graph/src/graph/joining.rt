@@ -9,23 +9,20 @@ use refusals::Refusal;
 use timing::{Arc, unreached};
 
 // Each wire in both directions.
-#[tactic(auto, using(crate::proofs::Ways::doubling))]
 fn double(wires: &[Option<Ends>]) -> ArrayVec<Arc, 1024>
     requires { length wires.now ≤ 512 }
     ensures { result.items ≡ both_ways wires.now }
 {
     let mut arcs = ArrayVec::new();
-    for wire in wires {
-        if let Some(e) = wire {
-            arcs.push(Arc {
-                from: e.from,
-                to: e.to,
-            });
-            arcs.push(Arc {
-                from: e.to,
-                to: e.from,
-            });
-        }
+    for e in wires.iter().flatten() {
+        arcs.push(Arc {
+            from: e.from,
+            to: e.to,
+        });
+        arcs.push(Arc {
+            from: e.to,
+            to: e.from,
+        });
     }
     arcs
 }
