@@ -2,7 +2,7 @@ use Rattle.std.proofs.Common.{◌≡◌, ◌*◌, length, map, Bor}
 use Rattle.std.specs.List.{flat_map}
 use Rattle.graph.specs.declared.graph.ends.Ends.{Ends}
 use Rattle.graph.proofs.Ways.{pair}
-use Rattle.graph.proofs.graph.joining.double.Given as goal
+use Rattle.graph.proofs.graph.rows.Rows.double.Given as goal
 
 abbrev pub invariant-loop-e : goal.invariant-loop-e
 invariant-loop-e l =
