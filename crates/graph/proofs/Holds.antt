@@ -1,6 +1,5 @@
 -- The circuit that a graph holds is sound, and what follows from that.
-use Rattle.std.proofs.Common.{◌≡◌, ℕ, zero, suc, ◌+◌, ◌<◌, ◌≤◌, List, [], ◌∷◌, length, get_or, filter, count_by, is_some, Some, None, Option, sym, refl, ap, ◌∙◌, subst, inl, inr, arith}
-use Rattle.std.proofs.lemmas.List.Sums.{length-filter}
+use Rattle.std.proofs.Common.{◌≡◌, ℕ, zero, suc, ◌+◌, ◌<◌, ◌≤◌, List, [], ◌∷◌, length, get_or, Some, None, Option, sym, refl, ap, subst, inl, inr, arith}
 use Rattle.std.specs.List.{AllByRecursion}
 use Rattle.words.specs.Netlist.{Joins}
 use Rattle.paths.specs.Arcs.{registers_of}
@@ -10,6 +9,7 @@ use Rattle.graph.specs.declared.graph.Graph.{Graph}
 use Rattle.graph.specs.declared.graph.ends.Ends.{Ends}
 use Rattle.graph.specs.Reads.{circuit, wires_of}
 use Rattle.graph.proofs.Rows.{in_live}
+use Rattle.graph.proofs.Present.{present}
 
 pub circuit_sound : (g : Graph) → Sound (circuit g)
 circuit_sound g = record {
@@ -37,14 +37,14 @@ wires_ranged g bytes w m =
     })
 
 -- the live wires are the slots that are not empty
-kept_count : (es : List (Option Ends)) (rs : List ℕ) → length rs ≡ length es → length (kept (wires_of es rs)) ≡ length (filter is_some es)
+kept_count : (es : List (Option Ends)) (rs : List ℕ) → length rs ≡ length es → length (kept (wires_of es rs)) ≡ length (present es)
 kept_count [] rs h = refl
 kept_count (e ∷ es) [] h = absurd (omega arith)
 kept_count (None ∷ es) (r ∷ rs) h = kept_count es rs (omega arith)
 kept_count (Some e ∷ es) (r ∷ rs) h = ap suc (kept_count es rs (omega arith))
 
-pub live_held : (g : Graph) → length (live (circuit g)) ≡ count_by is_some g.wires.items
-live_held g = kept_count g.wires.items g.registers.items g.paired ∙ length-filter is_some g.wires.items
+pub live_held : (g : Graph) → length (live (circuit g)) ≡ length (present g.wires.items)
+live_held g = kept_count g.wires.items g.registers.items g.paired
 
 pub kept_few : (ws : List (Option Wire)) → length (kept ws) ≤ length ws
 kept_few [] = omega arith

@@ -1,6 +1,7 @@
 pub mod Rows
 pub mod Gathering
 pub mod Paths
+pub mod Present
 pub mod Holds
 pub mod Ways
 pub mod Whole

@@ -1,7 +1,6 @@
 -- Wires forth and back: walks along them are what joins gates.
-use Rattle.std.proofs.Common.{◌≡◌, ℕ, zero, suc, ◌+◌, ◌<◌, ◌⊎◌, List, [], ◌∷◌, ◌++◌, length, get_or, take, Some, None, Option, sym, refl, ap, ◌∙◌, subst, inl, inr, arith}
-use Rattle.std.proofs.lemmas.Grind.{common_steps}
-use Rattle.std.proofs.lemmas.List.{take_more}
+use Rattle.std.proofs.Common.{◌≡◌, ℕ, zero, suc, ◌<◌, ◌⊎◌, List, [], ◌∷◌, length, get_or, Some, None, Option, sym, refl, ap, ◌∙◌, subst, inl, inr, arith}
+use Rattle.std.specs.List.{flat_map}
 use Rattle.model.specs.declared.Wire.{Wire}
 use Rattle.model.specs.Circuit.{Circuit, Link}
 use Rattle.timing.specs.declared.Arc.{Arc}
@@ -14,6 +13,7 @@ use Rattle.graph.specs.Tables.{At, Inside}
 use Rattle.graph.specs.Reads.{wire_by, circuit_of}
 use Rattle.graph.specs.Joins.{Joined, itself, along, against, LowestApart, both_ways}
 use Rattle.graph.proofs.Rows.{in_live, live_in}
+use Rattle.graph.proofs.Present.{present}
 
 abbrev forth : Ends → Arc
 forth e = record { from = e.from; to = e.to }
@@ -21,14 +21,13 @@ forth e = record { from = e.from; to = e.to }
 abbrev back : Ends → Arc
 back e = record { from = e.to; to = e.from }
 
-both_append : (xs ys : List (Option Ends)) → both_ways (xs ++ ys) ≡ both_ways xs ++ both_ways ys
-both_append [] ys = refl
-both_append (None ∷ xs) ys = both_append xs ys
-both_append (Some x ∷ xs) ys = ap (λ (l : List Arc). forth x ∷ back x ∷ l) (both_append xs ys)
+abbrev pub pair : Ends → List Arc
+pair e = forth e ∷ back e ∷ []
 
--- one wire more
-pub both_more : (es : List (Option Ends)) (i : ℕ) → i < length es → both_ways (take (i + 1) es) ≡ both_ways (take i es) ++ both_ways (get_or es i None ∷ [])
-both_more es i h = ap both_ways (take_more es i None h) ∙ both_append (take i es) (get_or es i None ∷ [])
+pub pairs_both : (es : List (Option Ends)) → flat_map pair (present es) ≡ both_ways es
+pairs_both [] = refl
+pairs_both (None ∷ es) = pairs_both es
+pairs_both (Some e ∷ es) = ap (λ (xs : List Arc). forth e ∷ back e ∷ xs) (pairs_both es)
 
 -- ---- hops
 later : {a : Arc} {xs : List Arc} {u v : ℕ} → Hop xs u v → Hop (a ∷ xs) u v
@@ -115,6 +114,3 @@ module _ (ds : List ℕ) (es : List (Option Ends)) (rs : List ℕ) (even : lengt
     none = λ j. elim (joined_walk 0 g j) [ inl e ↦ (let o = s.inner.0 in omega arith) | inr w ↦ s.none w ];
     first = λ h l. reaches h (λ o. s.before h o l);
   }
-
--- what the loop over the wires needs
-pub ruleset doubling = (common_steps, both_more)

@@ -1,21 +1,20 @@
-ghost use Rattle.std.specs.Prelude.{◌≡◌, ◌≤◌, length};
-ghost use Rattle.graph.specs.Reads.{circuit};
+ghost use Rattle.std.specs.Prelude.{◌≡◌};
+ghost use Rattle.graph.specs.Reads.{circuit, circuit_in};
 ghost use Rattle.graph.specs.Joins.{both_ways, Spans};
 
-use super::{Ends, Graph};
+use super::Graph;
+use super::rows::Rows;
 use arrayvec::ArrayVec;
 use refusals::Refusal;
 use timing::{Arc, unreached};
 
-// Each wire in both directions.
-#[tactic(auto, using(crate::proofs::Ways::doubling))]
-fn double(wires: &[Option<Ends>]) -> ArrayVec<Arc, 1024>
-    requires { length wires.now ≤ 512 }
-    ensures { result.items ≡ both_ways wires.now }
-{
-    let mut arcs = ArrayVec::new();
-    for wire in wires {
-        if let Some(e) = wire {
+impl Rows<'_> {
+    // Each wire in both directions.
+    fn double(&self) -> ArrayVec<Arc, 1024>
+        ensures { result.items ≡ both_ways self.now.wires.now }
+    {
+        let mut arcs = ArrayVec::new();
+        for e in self.wires.iter().flatten() {
             arcs.push(Arc {
                 from: e.from,
                 to: e.to,
@@ -25,8 +24,18 @@ fn double(wires: &[Option<Ends>]) -> ArrayVec<Arc, 1024>
                 to: e.from,
             });
         }
+        arcs
     }
-    arcs
+
+    // Refused with the lowest gate that wires do not join to the host.
+    fn joined(&self) -> Result<(), Refusal>
+        ensures { Spans (circuit_in self.now) result }
+    {
+        match unreached(self.double().as_slice(), self.delays.len()) {
+            None => Ok(()),
+            Some(gate) => Err(Refusal::Apart(gate)),
+        }
+    }
 }
 
 impl Graph {
@@ -34,10 +43,6 @@ impl Graph {
     pub fn joined(&self) -> Result<(), Refusal>
         ensures { Spans (circuit self.now) result }
     {
-        let arcs = double(self.wires.as_slice());
-        match unreached(arcs.as_slice(), self.delays.len()) {
-            None => Ok(()),
-            Some(gate) => Err(Refusal::Apart(gate)),
-        }
+        self.rows().joined()
     }
 }

@@ -36,12 +36,11 @@ impl Graph {
     }
 
     // How many wires there are, dropped ones left out.
-    #[tactic(auto, using(crate::proofs::Holds::live_held))]
     pub fn wires(&self) -> usize
         ensures count { result ≡ length (live (circuit self.now)) }
         ensures few { result ≤ 512 }
     {
-        self.wires.iter().filter(|wire| wire.is_some()).count()
+        self.wires.iter().flatten().count()
     }
 
     // The clock, where one is set.

@@ -16,10 +16,10 @@ pub struct Rows<'a> {
 }
 
 impl Graph {
+    ghost use Rattle.graph.specs.Reads.{circuit, circuit_in};
+
     pub(super) fn rows(&self) -> Rows<'_>
-        ensures delays { result.delays.now ≡ self.now.delays.items }
-        ensures wires { result.wires.now ≡ self.now.wires.items }
-        ensures registers { result.registers.now ≡ self.now.registers.items }
+        ensures { circuit_in result ≡ circuit self.now }
     {
         Rows {
             delays: self.delays.as_slice(),

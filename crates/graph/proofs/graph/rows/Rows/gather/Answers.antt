@@ -4,13 +4,13 @@ use Rattle.std.proofs.lemmas.Slice.Zip.{zip_turn}
 use Rattle.graph.specs.declared.graph.ends.Ends.{Ends}
 use Rattle.graph.specs.Measures.{Free}
 use Rattle.graph.proofs.Gathering as lemma
-use Rattle.graph.proofs.graph.measuring.gather.Goals as goal
-use Rattle.graph.proofs.graph.measuring.gather.Goals.{in_default-via-in-None-1, in_default-via-in-Some-wire+else-held-eq0, in_default-via-in-Some-wire+then-held-eq0+else-e-ne0, in_default-via-in-Some-wire+then-held-eq0+then-e-ne0+else-e-ne0-2}
+use Rattle.graph.proofs.graph.rows.Rows.gather.Goals as goal
+use Rattle.graph.proofs.graph.rows.Rows.gather.Goals.{in_default-via-in-None-1, in_default-via-in-Some-wire+else-held-eq0, in_default-via-in-Some-wire+then-held-eq0+else-e-ne0, in_default-via-in-Some-wire+then-held-eq0+then-e-ne0+else-e-ne0-2}
 
 pub loop-wire-preserved-in-loop-wire : goal.loop-wire-preserved-in-loop-wire
 loop-wire-preserved-in-loop-wire c =
-    let es = c.args.wires.now in
-    let rs = c.args.registers.now in
+    let es = c.args.self.now.wires.now in
+    let rs = c.args.self.now.registers.now in
     let n = length c.loop-wire.yielded in
     let turn = zip_turn es rs c.loop-wire.yielded c.into_iter-wire-iterator.result c.loop-wire.wire-iterator c.next.new.self c.next.result (cc) (cc) c.loop-wire.yielded_by (c.in-Some.wire, c.in-Some.held) c.in-Some.is c.next.ensures.steps in
     let e = c.in-Some-wire.e in
@@ -20,8 +20,8 @@ loop-wire-preserved-in-loop-wire c =
 
 pub loop-wire-preserved : goal.loop-wire-preserved
 loop-wire-preserved c =
-    let es = c.args.wires.now in
-    let rs = c.args.registers.now in
+    let es = c.args.self.now.wires.now in
+    let rs = c.args.self.now.registers.now in
     let n = length c.loop-wire.yielded in
     let turn = zip_turn es rs c.loop-wire.yielded c.into_iter-wire-iterator.result c.loop-wire.wire-iterator c.next.new.self c.next.result (cc) (cc) c.loop-wire.yielded_by (c.in-Some.wire, c.in-Some.held) c.in-Some.is c.next.ensures.steps in
     let held = turn.3 0 in
