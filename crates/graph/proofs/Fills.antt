@@ -1,7 +1,7 @@
 -- A file's graph, record by record: each call is taken, and adds what the record says.
 use Rattle.std.proofs.Common.{◌≡◌, ℕ, ◌+◌, ◌<◌, ◌≤◌, Bool, true, false, cond, ltb, ◌⊎◌, List, [], ◌∷◌, ◌++◌, map, length, get_or, take, drop, Some, Option, sym, refl, ap, ◌∙◌, subst, inl, inr, arith}
 use Rattle.std.specs.List.{AllByRecursion}
-use Rattle.std.proofs.lemmas.List.{drop-drop, append-nil, append_assoc, map_push, length-append, length-map, length-take, length-drop}
+use Rattle.std.proofs.lemmas.List.{drop-drop, append-nil, append_assoc, map_push, length-append, length-map, length-drop}
 use Rattle.std.proofs.lemmas.Grind.{common_steps}
 use Rattle.std.proofs.lemmas.Bool.Decides.{nat_tests}
 use Rattle.std.proofs.lemmas.Bool.{lt-ltb, cond-true}

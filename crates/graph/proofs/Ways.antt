@@ -9,7 +9,7 @@ use Rattle.timing.specs.Arcs.{Hop, Walk, hop, more}
 use Rattle.timing.specs.Marks.{Unreached, Spanned}
 use Rattle.refusals.specs.declared.Refusal.TheVariants.{Apart}
 use Rattle.graph.specs.declared.graph.ends.Ends.{Ends}
-use Rattle.graph.specs.Tables.{At, Inside}
+use Rattle.graph.specs.Tables.{At}
 use Rattle.graph.specs.Reads.{wire_by, circuit_of}
 use Rattle.graph.specs.Joins.{Joined, itself, along, against, LowestApart, both_ways}
 use Rattle.graph.proofs.Rows.{in_live, live_in}
