@@ -1,4 +1,4 @@
-ghost use Rattle.std.specs.Prelude.{◌≡◌, ◌<◌, length, slice_index};
+ghost use Rattle.std.specs.Prelude.{◌≡◌, ◌<◌, ◌≤◌, length, slice_index};
 ghost use Rattle.graph.specs.Tables.{Inside, Ceilings, Ticks};
 
 mod calls;
@@ -30,6 +30,8 @@ pub struct Graph {
     registers: ArrayVec<u8, 512>,
     clock: Option<u32>,
     ghost some: { 0 < length delays.items },
+    ghost small: { length delays.items ≤ 128 },
+    ghost short: { length wires.items ≤ 512 },
     ghost idle: { slice_index delays.items 0 ≡ 0 },
     ghost paired: { length registers.items ≡ length wires.items },
     ghost inside: { Inside wires.items (length delays.items) },

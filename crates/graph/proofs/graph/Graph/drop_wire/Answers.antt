@@ -8,6 +8,12 @@ invariant_of-self-clause-paired c =
     let s = c.args.self.now in
     s.paired ∙ sym (ap length (written s.wires c.deref_mut.result.now _ _ c.deref_mut.ensures.value) ∙ length-set s.wires.items _ _)
 
+pub invariant_of-self-clause-short : goal.invariant_of-self-clause-short
+invariant_of-self-clause-short c =
+    let s = c.args.self.now in
+    let l = s.short in
+    rw (written s.wires c.deref_mut.result.now _ _ c.deref_mut.ensures.value, length-set) l
+
 pub invariant_of-self-clause-inside : goal.invariant_of-self-clause-inside
 invariant_of-self-clause-inside c =
     let s = c.args.self.now in
