@@ -8,7 +8,7 @@ use Rattle.timing.specs.Arcs.{nowhere, Within, between}
 use Rattle.timing.specs.Groups.{Last, Grouped, Leaves, past, heads, entered}
 use Rattle.timing.proofs.Hops.{head_inner}
 
-pub grouped_none : (arcs : List Arc) (m n : ℕ) → m ≡ 128 → n ≡ 512 → Grouped arcs 0 (replicate m None) (replicate n None)
+pub grouped_none : (arcs : List Arc) (m n : ℕ) → m ≡ 256 → n ≡ 512 → Grouped arcs 0 (replicate m None) (replicate n None)
 grouped_none arcs m n a b = grind (arith, common_steps)
 
 -- ---- the gates that the arcs from u enter
@@ -69,7 +69,7 @@ module _ (arcs : List Arc) (u : ℕ) (hs left : List ℕ) (all : hs ++ left ≡ 
 
 -- ---- one step along a group
 module _ (arcs : List Arc) (last earlier : List (Option ℕ)) (groups : Grouped arcs (length arcs) last earlier) (u : ℕ) where
-  pub heads_first : u < 128 → heads (take (past (get_or last u None)) arcs) u ≡ heads arcs u
+  pub heads_first : u < 256 → heads (take (past (get_or last u None)) arcs) u ≡ heads arcs u
   heads_first h = grind (arith, skipped arcs u (length arcs), groups.ends u h, take_all (length arcs) arcs)
 
   module _ (i : ℕ) (at : Option ℕ) (is : at ≡ Some i) (here : Leaves arcs u at) where

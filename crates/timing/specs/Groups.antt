@@ -10,9 +10,9 @@ Last arcs g m (Some i) = (i < m) × ((slice_index_or arcs i nowhere).from ≡ g)
 
 -- of the first m arcs: the last that leaves each gate, and for each arc the last before it that leaves the same gate; no others
 pub record Grouped (arcs : List Arc) (m : ℕ) (last earlier : List (Option ℕ)) : Type 0 where
-  pub gates : length last ≡ 128
+  pub gates : length last ≡ 256
   pub places : length earlier ≡ 512
-  pub ends : (g : ℕ) → g < 128 → Last arcs g m (slice_index_or last g None)
+  pub ends : (g : ℕ) → g < 256 → Last arcs g m (slice_index_or last g None)
   pub steps : (i : ℕ) → i < m → Last arcs (slice_index_or arcs i nowhere).from i (slice_index_or earlier i None)
   pub unused : (i : ℕ) → m ≤ i → i < 512 → slice_index_or earlier i None ≡ None
 

@@ -8,11 +8,11 @@ use ring::ring::Ring;
 use std::marker::Model;
 
 // The arcs, and the groups of those that leave the same gate: the last one of each gate, and for each arc the one before it in its group.
-// The groups are linked in fixed arrays, since nothing may be allocated and each arc is to be gone over once.
+// There is a last one for each number that an arc can name. The groups are linked in fixed arrays, since nothing may be allocated and each arc is to be gone over once.
 #[derive(Drop)]
 pub(crate) struct Fanout<'a> {
     arcs: &'a [Arc],
-    last: [Option<u16>; 128],
+    last: [Option<u16>; 256],
     earlier: [Option<u16>; 512],
 }
 
@@ -34,7 +34,7 @@ impl<'a> Fanout<'a> {
         requires { (length arcs.now ≤ 512) × (Within 128 arcs.now) }
         ensures { result ≡ arcs.now }
     {
-        let mut last = [None; 128];
+        let mut last = [None; 256];
         let mut earlier = [None; 512];
         for (i, arc) in arcs.iter().enumerate() {
             let tail = arc.from as usize;
@@ -61,7 +61,6 @@ impl<'a> Fanout<'a> {
 
     // The gates that the arcs from the gate enter, last arc first.
     fn heads(&self, gate: u8) -> Heads<'_, 'a>
-        requires { gate < 128 }
         ensures heads { result ≡ heads self.now gate }
         ensures within { Within 128 self.now }
     {
@@ -74,7 +73,6 @@ impl<'a> Fanout<'a> {
 
     // Lets no gate that an arc from the gate enters start before the time.
     pub(crate) fn raise(&self, gate: u8, time: u32, times: &mut [u32; 128])
-        requires { gate < 128 }
         ensures { Raised self.now gate time times.old times.new }
     {
         for head in self.heads(gate) {
@@ -85,7 +83,6 @@ impl<'a> Fanout<'a> {
 
     // Takes the arcs that leave the gate off the counts; a gate whose count falls to 0 is ready.
     pub(crate) fn lower(&self, gate: u8, counts: &mut [u16; 128], ready: &mut Ring<'_, u8>)
-        requires inside { gate < 128 }
         requires enough_room { 128 ≤ ready.old.room }
         requires lowerable { Lowerable self.now 128 gate counts.old ready.old.held }
         ensures room { ready.new.room ≡ ready.old.room }
