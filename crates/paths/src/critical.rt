@@ -36,7 +36,7 @@ fn farthest(start: usize, found: &[Way<(u32, u32)>]) -> (usize, u32)
 }
 
 impl Paths<'_, '_> {
-    // The gate that the wire at the place a enters, or 0 where none is.
+    // The gate that the wire at the place a enters; 0 where none is, since the wires of a way are all there.
     fn entered(&self, a: u16) -> u8
         ensures { result ≡ entered_of (slice_index_or self.now.wires.now a None) }
     {

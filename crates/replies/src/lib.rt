@@ -51,6 +51,7 @@ pub fn place(word: u32) -> u32
     fields::PLACE.of(word)
 }
 
+// A function, as `words::kind_of` is: a word is more than its limit.
 pub fn limit(word: u32) -> LimitWord
     ensures { result ≡ limit_of word }
 {

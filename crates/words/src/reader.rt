@@ -90,7 +90,7 @@ pub fn gate_in(part: &[u32]) -> u16
     }
 }
 
-// The clock that a clock's word gives.
+// The clock that a clock's word gives. Beside `gate_in`, since one text for both would take the reader as an argument and be no shorter.
 pub fn clock_in(part: &[u32]) -> u32
     ensures { result ≡ clock_in part.now }
 {

@@ -47,7 +47,7 @@ fn put_wires(wires: &[Option<Wire>], out: &mut [u32]) -> usize
     2 * wires.iter().flatten().count()
 }
 
-// Puts the file of gates, wires and clock at the start of the memory; answers its length.
+// Puts the file of gates, wires and clock at the start of the memory; answers its length, since the memory is the caller's.
 pub fn put_file(delays: &[u16], wires: &[Option<Wire>], clock: u32, out: &mut [u32]) -> usize
     requires room { length delays.now + 2 * length (kept wires.now) + 2 ≤ length out.old }
     requires fits { Tabled delays.now wires.now clock }
