@@ -32,6 +32,7 @@ impl Rows<'_> {
         ensures { Spans (circuit_in self.now) result }
     {
         let mut marks = [false; 128];
+        // None is the good answer here, so `ok_or` does not serve.
         match unreached(self.double().as_slice(), &mut marks[..self.delays.len()]) {
             None => Ok(()),
             Some(g) => Err(Refusal::Apart(g)),
