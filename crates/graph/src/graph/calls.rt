@@ -1,4 +1,5 @@
-ghost use Rattle.std.specs.Prelude.{◌≡◌, ◌<◌, length, None, IfOk};
+ghost use Rattle.std.specs.Prelude.{◌≡◌, ◌<◌, length, Some, None, IfOk, nat_lt, if◌then◌else◌};
+ghost use Rattle.model.specs.Circuit.{gates};
 ghost use Rattle.graph.specs.Reads.{circuit};
 ghost use Rattle.graph.specs.Calls.{host_alone, after, gate_answer, with_gate, wire_answer, with_wire, there, set_answer, with_set, drop_answer, with_drop, clock_answer, with_clock};
 
@@ -34,6 +35,15 @@ impl Graph {
         Ok(at as u32)
     }
 
+    // The gate of that number, if it is there.
+    fn gate_at(&self, gate: u32) -> Option<u8>
+        ensures { result ≡ (if nat_lt gate (gates (circuit self.now)) then Some gate else None) }
+    {
+        let gates = self.delays.len();
+        let gate = u8::try_from(gate).ok()?;
+        (usize::from(gate) < gates).then_some(gate)
+    }
+
     // Adds a wire, and answers its number.
     #[tactic(auto, using(crate::proofs::Rows::rows))]
     pub fn wire(
@@ -49,12 +59,8 @@ impl Graph {
         ensures next { circuit self.new ≡ after result (circuit self.old) (with_wire (circuit self.old) from to registers price floor ceiling) }
         ensures clock { self.new.clock ≡ self.old.clock }
     {
-        if from as usize >= self.delays.len() {
-            return Err(Refusal::NoGate(0));
-        }
-        if to as usize >= self.delays.len() {
-            return Err(Refusal::NoGate(1));
-        }
+        let from = self.gate_at(from).ok_or(Refusal::NoGate(0))?;
+        let to = self.gate_at(to).ok_or(Refusal::NoGate(1))?;
         let registers = u8::try_from(registers).map_err(|_| Refusal::Range(2))?;
         if price < 1 || price > 16 {
             return Err(Refusal::Range(3));
@@ -69,8 +75,8 @@ impl Graph {
         }
         let at = self.wires.len();
         self.wires.push(Some(Ends {
-            from: from as u8,
-            to: to as u8,
+            from,
+            to,
             price: price as u8,
             floor,
             ceiling,
@@ -81,7 +87,7 @@ impl Graph {
 
     // The place of a wire that is there.
     #[tactic(auto, using(crate::proofs::Rows::rows))]
-    pub(super) fn place(&self, wire: u32) -> Result<usize, Refusal>
+    pub(super) fn wire_at(&self, wire: u32) -> Result<usize, Refusal>
         ensures answer { result ≡ there (circuit self.now) wire }
         ensures within { IfOk result (λ at. (at ≡ wire) × (at < length self.now.wires.items)) }
     {
@@ -99,7 +105,7 @@ impl Graph {
         ensures next { circuit self.new ≡ after result (circuit self.old) (with_set (circuit self.old) wire registers) }
         ensures clock { self.new.clock ≡ self.old.clock }
     {
-        let at = self.place(wire)?;
+        let at = self.wire_at(wire)?;
         let registers = u8::try_from(registers).map_err(|_| Refusal::Range(1))?;
         self.registers[at] = registers;
         Ok(())
@@ -112,7 +118,7 @@ impl Graph {
         ensures next { circuit self.new ≡ after result (circuit self.old) (with_drop (circuit self.old) wire) }
         ensures clock { self.new.clock ≡ self.old.clock }
     {
-        let at = self.place(wire)?;
+        let at = self.wire_at(wire)?;
         self.wires[at] = None;
         Ok(())
     }

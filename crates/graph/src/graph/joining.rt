@@ -31,6 +31,7 @@ impl Rows<'_> {
     fn joined(&self) -> Result<(), Refusal>
         ensures { Spans (circuit_in self.now) result }
     {
+        // None is the good answer here, so `ok_or` does not serve.
         match unreached(self.double().as_slice(), self.delays.len()) {
             None => Ok(()),
             Some(gate) => Err(Refusal::Apart(gate)),

@@ -34,7 +34,7 @@ impl Graph {
         ensures answer { Tried (circuit self.old) wire registers result }
         ensures same { self.new ≡ self.old }
     {
-        let at = self.place(wire)?;
+        let at = self.wire_at(wire)?;
         let registers = u8::try_from(registers).map_err(|_| Refusal::Range(1))?;
         let old = self.registers[at];
         self.registers[at] = registers;
