@@ -77,6 +77,7 @@ impl Graph {
         self.wires.push(Some(Ends {
             from,
             to,
+            // Between 1 and 16, as was asked above: no `try_from` can fail here.
             price: price as u8,
             floor,
             ceiling,
