@@ -1,4 +1,4 @@
-use Rattle.std.proofs.Common.{◌≤◌, ℕ, length, sym, ◌∙◌, subst, arith}
+use Rattle.std.proofs.Common.{rules, ◌≤◌, ℕ, length, sym, ◌∙◌, subst, arith}
 use Rattle.std.proofs.lemmas.List.{length-take-le}
 use Rattle.timing.specs.Arcs.{Ended}
 use Rattle.graph.specs.Joins.{both_ways}
@@ -21,4 +21,5 @@ pub returns-in-Some : goal.returns-in-Some
 returns-in-Some c =
     let s = c.args.self.now in
     let few : length s.delays.now ≤ 128 = s.few.0 in
-    record { outcome = one_apart s.delays.now s.wires.now s.registers.now s.paired c.in-Some.g (rw (c.as_slice.ensures.value ∙ c.double.ensures, length-take-le) at c.in-Some.ensures) }
+    let apart = one_apart s.delays.now s.wires.now s.registers.now s.paired c.in-Some.g (rw (c.as_slice.ensures.value ∙ c.double.ensures, length-take-le) at c.in-Some.ensures) in
+    record { outcome = search rules }
