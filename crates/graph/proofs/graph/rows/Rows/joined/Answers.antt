@@ -1,3 +1,4 @@
+use Rattle.std.proofs.Common.{rules}
 use Rattle.graph.proofs.Ways.{all_joined, one_apart}
 use Rattle.graph.proofs.graph.rows.Rows.joined.Goals as goal
 
@@ -9,4 +10,5 @@ returns-in-None c =
 pub returns-in-Some : goal.returns-in-Some
 returns-in-Some c =
     let s = c.args.self.now in
-    record { outcome = one_apart s.delays.now s.wires.now s.registers.now s.paired c.in-Some.gate (rw (c.as_slice.ensures.value, c.double.ensures) at c.in-Some.ensures) }
+    let apart = one_apart s.delays.now s.wires.now s.registers.now s.paired c.in-Some.gate (rw (c.as_slice.ensures.value, c.double.ensures) at c.in-Some.ensures) in
+    record { outcome = search rules }
