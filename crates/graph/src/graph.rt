@@ -27,7 +27,6 @@ pub struct Graph {
     // by number; None where the wire was dropped
     wires: ArrayVec<Option<Ends>, 512>,
     // by wire number; a list of their own, since a trial lends just these to its guard
-    // Apart from the wires, since a trial lends the register counts alone.
     registers: ArrayVec<u8, 512>,
     clock: Option<u32>,
     ghost some: { 0 < length delays.items },

@@ -1,5 +1,5 @@
 // The slowest path without registers, gate by gate.
-ghost use Rattle.std.specs.Prelude.{◌≡◌, ◌<◌, ◌≤◌, length, reverse, Some, None, slice_index_or};
+ghost use Rattle.std.specs.Prelude.{◌≡◌, ◌<◌, length, reverse, Some, None, slice_index_or};
 ghost use Rattle.ways.specs.Walks.{known};
 ghost use Rattle.paths.specs.Arcs.{circuit};
 ghost use Rattle.paths.specs.Slowest.{Slowest, entered_of, stations, Free, Top};
@@ -8,7 +8,7 @@ use crate::net::Paths;
 use arrayvec::ArrayVec;
 use ways::Way;
 
-// The delay of a distance without registers, and 0 of any other.
+// The delay of a distance without registers, and 0 of any other: it is never the greater.
 fn free_delay(found: Option<(u32, u32)>) -> u32
     ensures { Free found result }
 {
@@ -68,6 +68,7 @@ impl Paths<'_, '_> {
         let found = &mut found[..self.delays.len()];
         let mut gates = ArrayVec::new();
         let mut best = 0;
+        // By number: a search begins at a gate's number.
         for u in 1..self.delays.len() {
             self.settle(u, found);
             let (v, most) = farthest(u, found);

@@ -23,6 +23,7 @@ fn link(w: Wire, delays: &[u16]) -> Option<Arc<(u32, u32)>>
 {
     let tail = usize::from(w.from);
     let head = usize::from(w.to);
+    // Not `then`: its closure does not know the bounds.
     if 0 < tail && tail < delays.len() && 0 < head && head < delays.len() {
         Some(Arc {
             tail,

@@ -55,6 +55,7 @@ impl Paths<'_, '_> {
         most[..n].fill(0);
         let mut found: [Way<(u32, u32)>; 128] = Default::default();
         let found = &mut found[..n];
+        // By number, since the search and the row go by it.
         for u in 1..n {
             self.settle(u, found);
             write_row(u, u32::from(self.delays[u]), found, least, most);

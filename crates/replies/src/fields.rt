@@ -25,6 +25,7 @@ pub const PLACE: Field = Field {
     low: 1,
     size: 0x10_0000,
 };
+
 // The number of the wire that a limit names.
 pub const WIRE: Field = Field {
     low: 1,

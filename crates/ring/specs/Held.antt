@@ -1,14 +1,10 @@
 -- What a ring holds, and what the calls do to it.
-use Rattle.std.specs.Prelude.{◌≡◌, ℕ, ◌<◌, List, [], ◌∷◌, ◌++◌, length, Some, None, Ok, Err, Option, Result, refl}
-use Rattle.std.specs.Coded.{Coded, code_by, coded×, coded_list, coded_ℕ}
+use Rattle.std.specs.Prelude.{◌≡◌, ℕ, ◌<◌, List, [], ◌∷◌, ◌++◌, length, Some, None, Ok, Err, Option, Result}
 
 -- the elements, oldest first, and how many there is room for
 pub record Queue (X : Type 0) : Type 0 where
   pub held : List X
   pub room : ℕ
-
-abbrev pub queue_code : {X : Type 0} → Coded X → Coded (Queue X)
-queue_code {X} c = code_by (List X × ℕ) (coded× (coded_list c) coded_ℕ) (λ q. (q.held, q.room)) (λ p. record { held = p.0; room = p.1 }) (λ _. refl)
 
 -- `push` of `x` adds it at the end where there is room; a full ring is refused, and stays.
 abbrev pub Pushed : {X : Type 0} → Queue X → X → Queue X → Result Unit X → Type 0

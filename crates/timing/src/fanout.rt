@@ -8,7 +8,8 @@ use ring::ring::Ring;
 use std::marker::Model;
 
 // The arcs, and the groups of those that leave the same gate: the last one of each gate, and for each arc the one before it in its group.
-// There is a last one for each number that an arc can name. The groups are linked in fixed arrays, since nothing may be allocated and each arc is to be gone over once.
+// There is a last one for each number that an arc can name.
+// The groups are linked in fixed arrays, since nothing may be allocated and a gate's arcs are to be found without going over all.
 #[derive(Drop)]
 pub(crate) struct Fanout<'a> {
     arcs: &'a [Arc],

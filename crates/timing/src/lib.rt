@@ -46,6 +46,7 @@ fn settle(delays: &[u16], arcs: &[Arc]) -> Option<u32>
     ensures { Timed delays.now arcs.now result }
 {
     let fanout = Fanout::new(arcs);
+    // Apart, since `raise` goes by the times alone and `lower` by the counts alone.
     let mut counts = fanout.tally();
     let mut times = [0; 128];
     let mut slots = [0; 128];

@@ -57,6 +57,7 @@ pub(crate) fn lowest(arcs: &[Arc], gates: usize) -> OnLoop
     requires few { gates ≤ 128 }
     ensures { (v : ℕ) × Walk arcs.now v v → Lowest arcs.now result.gate }
 {
+    // 0 only where there is no loop, of which nothing is said.
     let gate = (1..gates as u32)
         .find(|gate| on_loop(arcs, *gate as u8))
         .unwrap_or(0);

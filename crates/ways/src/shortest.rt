@@ -15,7 +15,7 @@ fn beats<L: Distance>(sum: L, so_far: Option<L>) -> bool
     so_far.is_none_or(|x| !x.at_most(sum))
 }
 
-// What a search works on stays parameters: a ghost field takes only a fact with at most one proof, and `sound` and `kept` may have more.
+// These stay parameters: a ghost field takes a fact with at most one proof, which `sound` and `kept` need not have, and truncated they could not give an answer.
 
 // The arc at i leads on to `sum`, which is less than the distance to its head: the distance falls, or the arc closes a loop.
 fn improve<N: Net>(
@@ -76,6 +76,7 @@ fn round<N: Net>(net: &N, start: usize, found: &mut [Way<N::Length>]) -> Result<
     ensures { Rounded N.Length.Distance.kind (N.arcs net.now) start (N.many net.now) found.old found.new result }
 {
     let mut changed = false;
+    // By place: a net answers by place, and a way keeps its arcs' places.
     for i in 0..net.count() {
         changed |= relax(net, start, i, found)?;
     }

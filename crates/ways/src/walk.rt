@@ -49,7 +49,7 @@ pub fn followed(arcs: &[u16], i: u16) -> ArrayVec<u16, 128>
     ensures { result.items ≡ arcs.now ++ i ∷ [] }
 {
     let mut longer = ArrayVec::new();
-    let _fits = longer.try_extend_from_slice(arcs);
+    let _ = longer.try_extend_from_slice(arcs);
     longer.push(i);
     longer
 }

@@ -24,7 +24,7 @@ pub fn read_words(heap: Global, bytes: &[u8]) -> Result<Vec<u32>, AllocError>
     fours.iter().copied().map(u32::from_le_bytes).collect(heap)
 }
 
-// Writes the four bytes of word i; false, and nothing written, where they do not fit.
+// Writes the four bytes of word i; false, and nothing written, where they do not fit. A bool, since it fails in one way only.
 pub fn put_word(bytes: &mut [u8], i: usize, word: u32) -> bool
     ensures { Puts bytes.old i word result bytes.new }
 {

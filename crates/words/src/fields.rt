@@ -24,6 +24,7 @@ impl Field {
     pub fn put(self, value: u32) -> Option<u32>
         ensures { Makes (value < self.size) (value * self.low) result }
     {
+        // Not `then`: its closure does not know the bound.
         if value < self.size {
             Some(value * self.low)
         } else {

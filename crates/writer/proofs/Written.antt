@@ -3,9 +3,8 @@ use Rattle.std.proofs.Common.{◌≡◌, ℕ, ◌+◌, ◌*◌, ◌<◌, ◌≤�
 use Rattle.std.specs.List.{AllByRecursion}
 use Rattle.std.proofs.lemmas.List.{append_assoc, length-append, length-map, length_push, take_at}
 use borrow.Rule.Slice.PartMut.{put_mid}
-use Rattle.std.proofs.ByRecursion.{All-weaker}
 use Rattle.words.specs.Layout.{gate_word, clock_word, end_word}
-use Rattle.words.specs.Netlist.{Wire, Netlist, Joins, WithinLimits, Spells}
+use Rattle.words.specs.Netlist.{Wire, Netlist, WithinLimits, Spells}
 use Rattle.model.specs.Circuit.{kept}
 use Rattle.writer.specs.Writing.{body_of, file_of, Puts, Tabled, FileIn}
 use Rattle.writer.proofs.Putting.{puts_more, puts_behind, length_body, of_body}
@@ -22,10 +21,6 @@ kept_few (Some w ∷ ws) = let h = kept_few ws in omega arith
 module _ (delays : List ℕ) (wires : List (Option Wire)) (clock : ℕ) (t : Tabled delays wires clock) where
   abbrev netlist : Netlist
   netlist = record { delays = delays; wires = kept wires; clock = clock }
-
-  pub weak : AllByRecursion (Joins 127) (kept wires)
-  weak = All-weaker (Joins (length delays)) (Joins 127) (λ v j. let f = t.few in
-      record { from = let x = j.from in omega arith; to = let x = j.to in omega arith; registers = j.registers; cheap = j.cheap; priced = j.priced; ordered = j.ordered; ceiling = j.ceiling }) (kept wires) t.joins
 
   pub small : length delays + 2 * length (kept wires) + 1 < 0x1000_0000
   small = let a = kept_few wires in let b = t.held in let c = t.few in omega arith

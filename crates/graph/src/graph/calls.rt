@@ -7,6 +7,7 @@ use super::{Ends, Graph};
 use arrayvec::ArrayVec;
 use refusals::Refusal;
 
+// Each call has a clause for the clock, since a circuit, of which the others speak, has none.
 impl Graph {
     // The host alone, without a clock.
     pub fn new() -> Graph

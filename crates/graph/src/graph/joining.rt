@@ -31,7 +31,7 @@ impl Rows<'_> {
     fn joined(&self) -> Result<(), Refusal>
         ensures { Spans (circuit_in self.now) result }
     {
-        // None is the good answer here, so `ok_or` does not serve.
+        // None is the good answer here: `ok_or` does not serve, and `map_or` is no plainer.
         match unreached(self.double().as_slice(), self.delays.len()) {
             None => Ok(()),
             Some(gate) => Err(Refusal::Apart(gate)),

@@ -5,7 +5,7 @@ use super::Ends;
 use arrayvec::ArrayVec;
 use model::Wire;
 
-// The wire of a slot with that many registers, or none where it was dropped.
+// The wire of a slot with that many registers, or none where it was dropped. No `From`: the registers come from another list.
 fn wire_in(slot: Option<Ends>, registers: u8) -> Option<Wire>
     ensures { result ≡ wire_of slot registers }
 {

@@ -18,6 +18,7 @@ pub struct Rows<'a> {
 impl Graph {
     ghost use Rattle.graph.specs.Reads.{circuit, circuit_in};
 
+    // What it holds, as rows.
     pub(super) fn rows(&self) -> Rows<'_>
         ensures { circuit_in result ≡ circuit self.now }
     {
