@@ -18,6 +18,8 @@ impl Paths<'_, '_> {
         ensures { Nearest self.now.delays.now self.now.wires.now u found.new }
     {
         fit(self.delays);
-        ways(self, u, found).unwrap();
+        // A copy, since what is lent is read anew for each arc.
+        let net = *self;
+        ways(&net, u, found).unwrap();
     }
 }

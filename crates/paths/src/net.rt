@@ -18,8 +18,8 @@ pub struct Paths<'a, 'b> {
 }
 
 // The arc of a wire, unless an end is the host or a gate that is not there. Its length is the registers of the wire and the delay of the gate that it comes to.
-fn link(w: Wire, delays: &[u16]) -> Option<Arc<(u32, u32)>>
-    ensures { result ≡ wire_arc delays.now w }
+fn link(w: &Wire, delays: &[u16]) -> Option<Arc<(u32, u32)>>
+    ensures { result ≡ wire_arc delays.now w.now }
 {
     let tail = usize::from(w.from);
     let head = usize::from(w.to);
@@ -50,9 +50,8 @@ impl<'a, 'b> Net for Paths<'a, 'b> {
 
     fn arc(&self, i: usize) -> Option<Arc<(u32, u32)>> {
         self.wires
-            .get(i)
-            .copied()
-            .flatten()
+            .get(i)?
+            .as_ref()
             .and_then(|w| link(w, self.delays))
     }
 }

@@ -1,5 +1,5 @@
 -- Walks over a net's arcs, the least sum of the walks to a vertex, and what an answer says.
-use Rattle.std.specs.Prelude.{◌≡◌, ℕ, ◌<◌, ◌≤◌, Bool, true, false, List, [], ◌∷◌, length, reverse, Some, None, Option, Ok, Err, Result, ◌≢◌, slice_index_or}
+use Rattle.std.specs.Prelude.{◌≡◌, ℕ, ◌<◌, ◌≤◌, Bool, true, false, List, [], ◌∷◌, ◌++◌, length, reverse, Some, None, Option, Ok, Err, Result, ◌≢◌, slice_index_or}
 use Rattle.ways.specs.Laws.{Kind}
 use Rattle.ways.specs.declared.net.Arc.{Arc}
 use Rattle.ways.specs.declared.walk.Way.{Way}
@@ -36,6 +36,10 @@ known found v = slice_index_or found v (record { distance = None; arcs = record 
 -- the way of the vertex v, listed from its end
 abbrev pub row : {L : Type 0} → List (Way L) → ℕ → List ℕ
 row found v = reverse (known found v).arcs.items
+
+-- what is known of a vertex that a way of those arcs and then the arc i leads to, at that distance
+abbrev pub led : {L : Type 0} → List ℕ → ℕ → L → Way L
+led arcs i d = record { distance = Some d; arcs = record { items = arcs ++ i ∷ [] } }
 
 -- `None` is farther than any distance
 abbrev pub near : {L : Type 0} → Kind L → Option L → Option L → Bool

@@ -5,7 +5,7 @@ ghost use Rattle.ways.specs.Keeps.{Kept, Better, Improved, Relaxed, Rounded, Beg
 
 use crate::distance::Distance;
 use crate::net::{Arc, Net};
-use crate::walk::{Loop, Way, closed, followed, met};
+use crate::walk::{Loop, Way, closed, lead, met};
 use arrayvec::ArrayVec;
 
 // Whether a sum is less than what has been found so far.
@@ -36,11 +36,7 @@ fn improve<N: Net>(
     if let Some(p) = met(net, arc.tail, arc.head, arcs) {
         return Err(closed(arcs, p, i as u16));
     }
-    let arcs = followed(arcs, i as u16);
-    found[arc.head] = Way {
-        distance: Some(sum),
-        arcs,
-    };
+    lead(found, arc.tail, arc.head, i as u16, sum);
     Ok(())
 }
 

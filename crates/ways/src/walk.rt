@@ -1,20 +1,20 @@
 // Ways and loops as lists of arcs.
-ghost use Rattle.std.specs.Prelude.{◌≡◌, ◌<◌, ◌≤◌, ◌∷◌, [], ◌++◌, length, reverse, take, drop, Decides, MatchOption, ◌≢◌, slice_index};
-ghost use Rattle.ways.specs.Walks.{Clear};
+ghost use Rattle.std.specs.Prelude.{◌≡◌, ◌<◌, ◌≤◌, ◌∷◌, [], ◌++◌, length, reverse, take, drop, Decides, MatchOption, ◌≢◌, slice_index, slice_set};
+ghost use Rattle.ways.specs.Walks.{Clear, known, led};
 ghost use Rattle.ways.specs.Keeps.{Leaves, Meets};
 
 use crate::net::Net;
 use arrayvec::ArrayVec;
 
 // What a search knows of a vertex: its distance, if a way to it was found, and the arcs of that way in their order.
-#[derive(Default, Drop, PartialEq, Eq, Debug)]
+#[derive(Default, Drop, Clone, PartialEq, Eq, Debug)]
 pub struct Way<L> {
     pub distance: Option<L>,
     pub arcs: ArrayVec<u16, 128>,
 }
 
 // The arcs of a loop below zero, in their order.
-#[derive(Drop, PartialEq, Eq, Debug)]
+#[derive(Drop, Clone, PartialEq, Eq, Debug)]
 pub struct Loop {
     pub arcs: ArrayVec<u16, 128>,
 }
@@ -43,15 +43,34 @@ pub fn met<N: Net>(net: &N, from: usize, to: usize, arcs: &[u16]) -> Option<usiz
     leaving(net, to, arcs)
 }
 
-// Those arcs, and then the arc i.
-pub fn followed(arcs: &[u16], i: u16) -> ArrayVec<u16, 128>
-    requires { length arcs.now < 128 }
-    ensures { result.items ≡ arcs.now ++ i ∷ [] }
+impl<L> Way<L> {
+    // Becomes a way over those arcs and then the arc i. Written in place, since a new list fills its room for 128 arcs, and a way has few.
+    fn follow(&mut self, arcs: &[u16], i: u16, distance: L)
+    where
+        L: Drop,
+        requires { length arcs.now < 128 }
+        ensures { self.new ≡ led arcs.now i distance }
+    {
+        self.distance = Some(distance);
+        self.arcs.clear();
+        let _ = self.arcs.try_extend_from_slice(arcs);
+        self.arcs.push(i);
+    }
+}
+
+// The way of `to` becomes the way of `from` and then the arc i.
+pub fn lead<L: Drop>(found: &mut [Way<L>], from: usize, to: usize, i: u16, distance: L)
+    requires ends { (from < length found.old) × (to < length found.old) × (from ≢ to) }
+    requires room { length (known found.old from).arcs.items < 128 }
+    ensures { found.new ≡ slice_set found.old to (led (known found.old from).arcs.items i distance) }
 {
-    let mut longer = ArrayVec::new();
-    let _ = longer.try_extend_from_slice(arcs);
-    longer.push(i);
-    longer
+    if from < to {
+        let (low, high) = found.split_at_mut(to);
+        high[0].follow(low[from].arcs.as_slice(), i, distance);
+    } else {
+        let (low, high) = found.split_at_mut(from);
+        low[to].follow(high[0].arcs.as_slice(), i, distance);
+    }
 }
 
 // The loop of the arcs from p on and the arc i.
@@ -59,7 +78,8 @@ pub fn closed(arcs: &[u16], p: usize, i: u16) -> Loop
     requires { (p ≤ length arcs.now) × (length arcs.now < 128) }
     ensures { result.arcs.items ≡ drop p arcs.now ++ i ∷ [] }
 {
-    Loop {
-        arcs: followed(&arcs[p..], i),
-    }
+    let mut around = ArrayVec::new();
+    let _ = around.try_extend_from_slice(&arcs[p..]);
+    around.push(i);
+    Loop { arcs: around }
 }

@@ -1,4 +1,6 @@
-use Rattle.std.proofs.Common.{Some, refl}
+use Rattle.std.proofs.Common.{◌++◌, ◌∷◌, [], refl, sym, ap, ◌∙◌}
+use Rattle.std.proofs.lemmas.List.{get_or_default}
+use Rattle.ways.specs.Walks.{known, led}
 use Rattle.ways.proofs.Steps.{closes, lowered}
 use Rattle.ways.proofs.shortest.improve.Goals as goal
 
@@ -10,5 +12,7 @@ returns-in-Some g c =
 pub returns : goal.returns
 returns g c =
     let e = c.in_default.ensures in
-    lowered g.met.N.Length.Distance.distances _ _ _ _ c.requires.sound c.requires.kept c.args.i c.args.arc c.args.sum c.requires.better _ _ c.as_slice-arcs.ensures.value
-    e.0 e.1 (record { distance = Some c.args.sum; arcs = c.followed-arcs.result }) refl c.followed-arcs.ensures
+    let read = c.as_slice-arcs.ensures.value in
+    let row = read ∙ ap (λ w. w.arcs.items) (get_or_default c.args.found.now c.args.arc.tail _ _ c.requires.within.0) in
+    rw c.lead.ensures (lowered g.met.N.Length.Distance.distances _ _ _ _ c.requires.sound c.requires.kept c.args.i c.args.arc c.args.sum c.requires.better _ _ read
+    e.0 e.1 (led (known c.args.found.now c.args.arc.tail).arcs.items c.args.i c.args.sum) refl (ap (λ ps. ps ++ c.args.i ∷ []) (sym row)))
