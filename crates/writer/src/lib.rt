@@ -39,12 +39,14 @@ fn put_wires(wires: &[Option<Wire>], out: &mut [u32]) -> usize
     ensures words { Puts out.old (body_of (kept wires.now)) out.new }
     ensures count { result ≡ 2 * length (kept wires.now) }
 {
+    let mut long = 0;
     // By index: after a `zip` over `chunks_exact_mut` no proof knows that either.
     for (i, wire) in wires.iter().flatten().enumerate() {
         let at = 2 * i;
         out[at..at + 2].copy_from_slice(&words_of(wire));
+        long = at + 2;
     }
-    2 * wires.iter().flatten().count()
+    long
 }
 
 // Puts the file of gates, wires and clock at the start of the memory; answers its length, since the memory is the caller's.

@@ -4,7 +4,7 @@ use Rattle.std.proofs.lemmas.List.{take_all, length_push}
 use Rattle.words.specs.Netlist.{Joins, Wire}
 use Rattle.model.specs.Circuit.{kept}
 use Rattle.writer.specs.Writing.{body_of, Puts}
-use Rattle.writer.proofs.Kept.{turn, end, count}
+use Rattle.writer.proofs.Kept.{turn, end}
 use Rattle.writer.proofs.Putting as lemma
 use Rattle.writer.proofs.put_wires.Goals as goal
 
@@ -28,15 +28,15 @@ words_of-requires c =
 pub loop-i-preserved : goal.loop-i-preserved
 loop-i-preserved c =
     let t = turn c.into_iter-i-iterator.result c.args.wires.now (cc) (cc) (cc) (cc) (cc) c.loop-i.yielded _ _ c.loop-i.yielded_by c.in-Some.i c.in-Some.wire c.in-Some.is c.next.ensures.steps in
-    lemma.wired_more (kept c.args.wires.now) (length c.loop-i.yielded) c.in-Some.i c.in-Some.wire.now c.args.out.now c.loop-i.out c.copy_from_slice.new.self _ _ _ c.loop-i.invariant t (c.copy_from_slice.ensures.after ∙ c.words_of.ensures) (omega arith) (omega arith) (length_push c.loop-i.yielded _)
+    let more = length_push c.loop-i.yielded _ in
+    (lemma.wired_more (kept c.args.wires.now) (length c.loop-i.yielded) c.in-Some.i c.in-Some.wire.now c.args.out.now c.loop-i.out c.copy_from_slice.new.self _ _ _ c.loop-i.invariant.0 t (c.copy_from_slice.ensures.after ∙ c.words_of.ensures) (omega arith) (omega arith) more, omega (arith, t.1, more))
 
 pub returns-clause-words : goal.returns-clause-words
 returns-clause-words c =
     let t = end c.into_iter-i-iterator.result c.args.wires.now (cc) (cc) (cc) (cc) (cc) c.loop-i.yielded _ _ c.loop-i.yielded_by c.in-None.is c.next.ensures.steps in
-    subst (λ (vs : List Wire). Puts c.args.out.now (body_of vs) c.loop-i.out) (take_all _ (kept c.args.wires.now) (omega arith)) c.loop-i.invariant
-
-pub overflow_mul-result : goal.overflow_mul-result
-overflow_mul-result c = let e = count c.args.wires.now (cc) (cc) (cc) (cc) _ c.count.ensures.ran in omega arith
+    subst (λ (vs : List Wire). Puts c.args.out.now (body_of vs) c.loop-i.out) (take_all _ (kept c.args.wires.now) (omega arith)) c.loop-i.invariant.0
 
 pub returns-clause-count : goal.returns-clause-count
-returns-clause-count c = let e = count c.args.wires.now (cc) (cc) (cc) (cc) _ c.count.ensures.ran in omega arith
+returns-clause-count c =
+    let t = end c.into_iter-i-iterator.result c.args.wires.now (cc) (cc) (cc) (cc) (cc) c.loop-i.yielded _ _ c.loop-i.yielded_by c.in-None.is c.next.ensures.steps in
+    omega (arith, t, c.loop-i.invariant.1)
