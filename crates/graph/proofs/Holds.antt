@@ -1,6 +1,8 @@
 -- The circuit that a graph holds is sound, and what follows from that.
-use Rattle.std.proofs.Common.{◌≡◌, ℕ, zero, suc, ◌+◌, ◌<◌, ◌≤◌, List, [], ◌∷◌, length, get_or, Some, None, Option, sym, refl, ap, subst, inl, inr, arith}
+use Rattle.std.proofs.Common.{◌≡◌, ℕ, zero, suc, ◌+◌, ◌-◌, ◌<◌, ◌≤◌, List, [], ◌∷◌, ◌++◌, length, get_or, drop, replicate, Some, None, Option, sym, refl, ap, ◌∙◌, subst, inl, inr, arith}
 use Rattle.std.specs.List.{AllByRecursion}
+use Rattle.std.proofs.lemmas.List.{get_or-append_right, get_or-drop}
+use Rattle.timing.proofs.Blank.{blank_all}
 use Rattle.words.specs.Netlist.{Joins}
 use Rattle.paths.specs.Arcs.{registers_of}
 use Rattle.model.specs.declared.Wire.{Wire}
@@ -67,3 +69,11 @@ all_join n (w ∷ ws) r j =
       record { from = omega arith; to = omega arith; registers = omega arith; cheap = x.dear; priced = x.cheap; ordered = x.order; ceiling = omega arith },
       all_join n ws (λ v m. r v (inr m)) (λ v m. j v (inr m)),
     )
+
+-- past a list that stands at the front of empty slots there is none
+pub beyond_front : (front ws : List (Option Wire)) (n m : ℕ) → front ≡ ws → n ≡ length ws → (k : ℕ) → length ws ≤ k → get_or (front ++ drop n (replicate m None)) k None ≡ None
+beyond_front front ws n m e l k h =
+    let f : length front ≡ n = ap length e ∙ sym l in
+    get_or-append_right front (drop n (replicate m None)) n k None f (omega arith)
+    ∙ get_or-drop n (replicate m None) (k - n) None
+    ∙ blank_all m (n + (k - n)) None

@@ -1,8 +1,9 @@
 -- The slots that are not empty, one after another.
-use Rattle.std.proofs.Common.{◌≡◌, ◌≤◌, ◌<◌, List, [], ◌∷◌, length, false, cond, Some, None, Option, subst, Bor, Iter, arith}
+use Rattle.std.proofs.Common.{◌≡◌, ◌+◌, ◌≤◌, ◌<◌, List, [], ◌∷◌, length, count_by, false, cond, is_some, Some, None, Option, refl, subst, Bor, Iter, arith}
 use Rattle.std.specs.List.{flat_map}
 use Rattle.std.specs.Option.{option_to_list, option_len}
 use Rattle.std.specs.Slice.Iter.{iter_rest}
+use Rattle.std.proofs.lemmas.List.Recursion.{is_count_by}
 use Rattle.std.proofs.iter.Yields.{fronts}
 use Rattle.std.specs.declared.iter.Flatten.{Flatten}
 use Rattle.std.specs.declared.option.Iter.{OptionIter}
@@ -20,6 +21,13 @@ pub present_few : (es : List (Option Ends)) → length (present es) ≤ length e
 present_few [] = omega arith
 present_few (None ∷ es) = let h = present_few es in omega arith
 present_few (Some e ∷ es) = let h = present_few es in omega arith
+
+one_slot : (x : Option Ends) (es : List (Option Ends)) → length (present (x ∷ es)) ≡ cond (is_some x) (1 + length (present es)) (length (present es))
+one_slot None es = refl
+one_slot (Some e) es = omega arith
+
+pub present_count : (es : List (Option Ends)) → length (present es) ≡ count_by is_some es
+present_count = is_count_by (λ es. length (present es)) is_some refl one_slot
 
 -- what an `Option` behind a reference gives
 item_list : {j : _} (o : Option Ends) → option_iter_item j ≡ o → option_iter_done j ≡ false → YieldsList (option_iter_steps {A = Ends}) (λ y. y.now) j (option_to_list o)

@@ -12,7 +12,7 @@ impl Graph {
         ensures { Critical (circuit self.now) result }
     {
         self.measure()?;
-        let wires = self.wiring();
+        let wires = self.listing();
         let paths = Paths {
             delays: self.delays.as_slice(),
             wires: wires.as_slice(),

@@ -1,4 +1,4 @@
-ghost use Rattle.std.specs.Prelude.{◌≡◌, ◌≤◌, length};
+ghost use Rattle.std.specs.Prelude.{◌≡◌, ℕ, ◌≤◌, length, take, None, slice_index_or};
 ghost use Rattle.graph.specs.Reads.{circuit};
 ghost use Rattle.model.specs.Circuit.{gates, live, Sound, Ranged, ◌∈◌};
 
@@ -27,8 +27,21 @@ impl Graph {
         self.wires.len()
     }
 
-    // The wires by number, none where a number's wire was dropped; each wire's numbers are in their ranges.
-    pub fn wiring(&self) -> ArrayVec<Option<Wire>, 512>
+    // The wires by number, none where a number's wire was dropped or was not given; each wire's numbers are in their ranges.
+    pub fn wiring(&self) -> [Option<Wire>; 512]
+        ensures long { length result ≡ 512 }
+        ensures wires { take (length (circuit self.now).wires) result ≡ (circuit self.now).wires }
+        ensures beyond { (k : ℕ) → length (circuit self.now).wires ≤ k → slice_index_or result k None ≡ None }
+        ensures ranged { (w : Wire) → w ∈ live (circuit self.now) → Ranged w }
+    {
+        let list = self.listing();
+        let mut slots = [None; 512];
+        slots[..list.len()].copy_from_slice(list.as_slice());
+        slots
+    }
+
+    // The same as a list, for each number that was given.
+    pub(super) fn listing(&self) -> ArrayVec<Option<Wire>, 512>
         ensures wires { result.items ≡ (circuit self.now).wires }
         ensures ranged { (w : Wire) → w ∈ live (circuit self.now) → Ranged w }
     {
@@ -40,7 +53,15 @@ impl Graph {
         ensures count { result ≡ length (live (circuit self.now)) }
         ensures few { result ≤ 512 }
     {
-        self.wires.iter().flatten().count()
+        let slots = self.wires.as_slice();
+        let mut n = 0;
+        // Not `flatten().count()`, which takes four times as long.
+        for slot in slots {
+            if slot.is_some() {
+                n += 1;
+            }
+        }
+        n
     }
 
     // The clock, where one is set.

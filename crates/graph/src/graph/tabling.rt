@@ -18,7 +18,7 @@ impl Graph {
             return Err(Refusal::Memory(1));
         }
         self.measure()?;
-        let wires = self.wiring();
+        let wires = self.listing();
         let paths = Paths {
             delays: self.delays.as_slice(),
             wires: wires.as_slice(),

@@ -14,7 +14,7 @@ impl Graph {
             return Err(Refusal::Memory(5));
         }
         let clock = self.clock.ok_or(Refusal::NoClock)?;
-        let wires = self.wiring();
+        let wires = self.listing();
         Ok(put_file(&self.delays.as_slice()[1..], wires.as_slice(), clock, out))
     }
 }

@@ -3,7 +3,7 @@ use Rattle.graph.proofs.Holds.{deep}
 use Rattle.graph.proofs.graph.Graph.critical.Goals as goal
 
 pub invariant_of-paths-clause-deep : goal.invariant_of-paths-clause-deep
-invariant_of-paths-clause-deep c = rw (c.as_slice-2.ensures.value, c.wiring-wires.ensures.wires) (deep (circuit c.args.self.now).wires c.wiring-wires.ensures.ranged)
+invariant_of-paths-clause-deep c = rw (c.as_slice-2.ensures.value, c.listing-wires.ensures.wires) (deep (circuit c.args.self.now).wires c.listing-wires.ensures.ranged)
 
 pub returns : goal.returns
-returns c = record { outcome = rw (c.as_slice.ensures.value, c.as_slice-2.ensures.value, c.wiring-wires.ensures.wires) at c.slowest-gates.ensures }
+returns c = record { outcome = rw (c.as_slice.ensures.value, c.as_slice-2.ensures.value, c.listing-wires.ensures.wires) at c.slowest-gates.ensures }
