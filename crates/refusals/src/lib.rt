@@ -7,10 +7,12 @@ ghost use Rattle.std.specs.Cmp.Rules.{comparing};
 ghost use Rattle.std.proofs.Common.{rules};
 ghost use Rattle.std.specs.Ordering.{on, eq_of_both};
 
+use std::fmt;
+
 pub mod shown;
 
 // Why a call is refused. The number in a case is its place; a case without one has place 0.
-#[derive(Clone, Copy, Debug)]
+#[derive(Clone, Copy)]
 pub enum Refusal {
     // 1: the argument at that position is out of range.
     Range(u32),
@@ -128,6 +130,15 @@ impl PartialEq for Refusal {
 
 impl Eq for Refusal {
     ghost laws = { Prim.search (comparing, rules) };
+}
+
+// By hand, since it prints number and place, by which users know a refusal: a derive prints its name here.
+impl fmt::Debug for Refusal {
+    fn fmt<W: fmt::Write>(&self, f: &mut fmt::Formatter<W>) -> fmt::Result {
+        let number = self.number();
+        let place = self.place();
+        write!(f, "refusal {number} at {place}")
+    }
 }
 
 // A load is refused as a call, or at a word, with what the call refuses that the word stands for.
