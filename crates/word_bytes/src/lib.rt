@@ -12,7 +12,8 @@ pub fn word_at(bytes: &[u8], i: usize) -> Option<u32>
     ensures { result ≡ slice_get (words_of bytes.now) i }
 {
     let (fours, _) = bytes.as_chunks::<4>();
-    fours.get(i).copied().map(u32::from_le_bytes)
+    let [a, b, c, d] = *fours.get(i)?;
+    Some(u32::from_le_bytes([a, b, c, d]))
 }
 
 // The words, without what is left over after the last.
