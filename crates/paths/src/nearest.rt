@@ -18,7 +18,7 @@ impl Paths<'_, '_> {
         ensures { Nearest self.now.delays.now self.now.wires.now u found.new }
     {
         fit(self.delays);
-        // A copy, since what is lent is read anew for each arc.
+        // A copy of its own: through `self` each arc would look up anew where the delays and the wires lie, since the search writes in between.
         let net = *self;
         ways(&net, u, found).unwrap();
     }

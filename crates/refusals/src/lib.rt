@@ -132,7 +132,7 @@ impl Eq for Refusal {
     ghost laws = { Prim.search (comparing, rules) };
 }
 
-// By hand, since it prints number and place, by which users know a refusal: a derive prints its name here.
+// By hand, since it prints number and place, by which users know a refusal: a derive would print the case's name.
 impl fmt::Debug for Refusal {
     fn fmt<W: fmt::Write>(&self, f: &mut fmt::Formatter<W>) -> fmt::Result {
         let number = self.number();

@@ -1,11 +1,12 @@
 -- What a ring holds, and what the calls do to it.
 use Rattle.std.specs.Prelude.{◌≡◌, ℕ, ◌<◌, List, [], ◌∷◌, ◌++◌, length, Some, None, Ok, Err, Option, Result}
 
--- the elements, oldest first, how many there is room for, and what the lent slots hold
+-- the elements, oldest first, how many there is room for, what the lent slots hold, and at which of them the elements begin
 pub record Queue (X : Type 0) : Type 0 where
   pub held : List X
   pub room : ℕ
   pub lent : List X
+  pub first : ℕ
 
 -- `push` of `x` adds it at the end where there is room; a full ring is refused, and stays, its slots too.
 abbrev pub Pushed : {X : Type 0} → Queue X → X → Queue X → Result Unit X → Type 0

@@ -27,7 +27,7 @@ impl Graph {
         self.wires.len()
     }
 
-    // The wires by number, none where a number's wire was dropped or was not given; each wire's numbers are in their ranges.
+    // The wires by number, none where a number's wire was dropped or the number was not given; each wire's numbers are in their ranges.
     pub fn wiring(&self) -> [Option<Wire>; 512]
         ensures long { length result ≡ 512 }
         ensures wires { take (length (circuit self.now).wires) result ≡ (circuit self.now).wires }
